@@ -1,0 +1,4 @@
+pub mod Cuts
+pub mod Text
+pub mod Lines
+pub mod NameTables
