@@ -2,10 +2,16 @@
 #![tactic(auto)]
 
 mod declaration;
+mod fault;
 mod fields;
 mod names;
+mod plans;
+mod printing;
 mod program;
+mod running;
+mod script;
 mod status;
 mod words;
 
+pub use fault::put_fault;
 pub use status::{Status, Which};

@@ -84,6 +84,7 @@ fn number_shown(alloc: Global, listed: &Listed<'_>) -> Result<Option<usize>, Mem
 fn settle(alloc: Global, listed: Listed<'_>) -> Result<Option<ReadProgram>, Memory>
     ensures program { IfOk result (λ read. option_map program_in read ≡ settled_of (named listed.entry)) }
     ensures main { IfOk result (λ read. IfSome read (λ it. it.main < length it.inputs.items)) }
+    ensures few { IfOk result (λ read. IfSome read (λ it. length it.inputs.items ≤ 16384)) }
 {
     match number_shown(alloc, &listed)? {
         Some(main) => Ok(Some(ReadProgram {
@@ -98,6 +99,7 @@ fn settle(alloc: Global, listed: Listed<'_>) -> Result<Option<ReadProgram>, Memo
 pub fn read_program(alloc: Global, text: &[u8]) -> Result<Option<ReadProgram>, Memory>
     ensures program { IfOk result (λ read. option_map program_in read ≡ program_of text.now) }
     ensures main { IfOk result (λ read. IfSome read (λ it. it.main < length it.inputs.items)) }
+    ensures few { IfOk result (λ read. IfSome read (λ it. length it.inputs.items ≤ 16384)) }
 {
     match read_lines(alloc, text)? {
         Some(listed) => settle(alloc, listed),
