@@ -7,3 +7,5 @@ pub mod Results
 pub mod Runs
 pub mod PlanFits
 pub mod Prefixes
+pub mod Histories
+pub mod Outcomes

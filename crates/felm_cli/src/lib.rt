@@ -4,7 +4,9 @@
 mod declaration;
 mod fault;
 mod fields;
+mod in_memory;
 mod names;
+mod once;
 mod plans;
 mod printing;
 mod program;
@@ -14,4 +16,6 @@ mod status;
 mod words;
 
 pub use fault::put_fault;
+pub use in_memory::felm_in_memory;
+pub use once::felm_once;
 pub use status::{Status, Which};
