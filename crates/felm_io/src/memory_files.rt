@@ -80,3 +80,55 @@ impl Files for MemoryFiles {
         }
     }
 }
+
+#[cfg(test)]
+mod tests {
+    use super::*;
+    use crate::sure_files::SureFiles;
+    use std::test::Fail;
+
+    /// Loads through the bound.
+    fn load<F: Files>(alloc: Global, files: &mut F, name: &str) -> Result<Vec<u8>, LoadFail> {
+        files.load(alloc, name, 5)
+    }
+
+    #[test]
+    fn the_load_with_the_number_fails_and_so_does_a_missing_name(
+        rt: HostRuntime,
+    ) -> Result<(), Fail> {
+        let alloc = rt.alloc();
+        let mut files = MemoryFiles::make(alloc);
+        files.add("p", b"older")?;
+        files.add("p", b"main = x\n")?;
+        files.add("s", b"x 5\n")?;
+        files.fail_at(2)?;
+        files.fail_at(5)?;
+        assert_eq!(rt;
+            load(alloc, &mut files, "p")?.as_slice(),
+            b"main ".as_slice()
+        );
+        assert_eq!(rt; load(alloc, &mut files, "s").err(), Some(LoadFail::Failed));
+        assert_eq!(rt;
+            load(alloc, &mut files, "s")?.as_slice(),
+            b"x 5\n".as_slice()
+        );
+        assert_eq!(rt; load(alloc, &mut files, "q").err(), Some(LoadFail::Failed));
+        assert_eq!(rt; load(alloc, &mut files, "p").err(), Some(LoadFail::Failed));
+        assert_eq!(rt; load(alloc, &mut files, "p")?.len(), 5);
+        Ok(())
+    }
+
+    #[test]
+    fn sure_files_load_a_missing_name_as_no_bytes(rt: HostRuntime) -> Result<(), Fail> {
+        let alloc = rt.alloc();
+        let mut files = SureFiles::make(alloc);
+        files.add("s", b"older")?;
+        files.add("s", b"x 5\n")?;
+        assert_eq!(rt;
+            load(alloc, &mut files, "s")?.as_slice(),
+            b"x 5\n".as_slice()
+        );
+        assert_eq!(rt; load(alloc, &mut files, "p")?.len(), 0);
+        Ok(())
+    }
+}

@@ -88,3 +88,35 @@ impl Sink for MemorySink {
         self.gathered.append(&piece[..count])
     }
 }
+
+#[cfg(test)]
+mod tests {
+    use super::*;
+    use crate::sink::put_all;
+    use crate::sure_sink::SureSink;
+    use std::test::Fail;
+
+    const TEXT: &[u8] = b"felm-result 1\n0 default 0\n1 x 5 change 5\n2 x 5 change 5\nend 2\n";
+
+    #[test]
+    fn the_put_with_the_number_fails(rt: HostRuntime) -> Result<(), Fail> {
+        let mut sink = MemorySink::make(rt.alloc(), 10);
+        sink.fail_at(3)?;
+        assert_eq!(rt; put_all(&mut sink, TEXT), Err(SinkFail::Failed));
+        assert_eq!(rt; sink.bytes(), b"felm-result 1\n0 defa".as_slice());
+        assert_eq!(rt; put_all(&mut sink, b"ult 0\n"), Ok(()));
+        assert_eq!(rt; sink.bytes(), b"felm-result 1\n0 default 0\n".as_slice());
+        Ok(())
+    }
+
+    #[test]
+    fn all_is_put_where_no_put_is_to_fail(rt: HostRuntime) {
+        let mut pieces = MemorySink::make(rt.alloc(), 1);
+        assert_eq!(rt; put_all(&mut pieces, TEXT), Ok(()));
+        assert_eq!(rt; pieces.bytes(), TEXT);
+        let mut sure = SureSink::make(rt.alloc());
+        assert_eq!(rt; put_all(&mut sure, b""), Ok(()));
+        assert_eq!(rt; put_all(&mut sure, TEXT), Ok(()));
+        assert_eq!(rt; sure.bytes(), TEXT);
+    }
+}
