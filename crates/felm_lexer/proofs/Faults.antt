@@ -1,14 +1,13 @@
 -- What stands before the first fault of a text.
-use Rattle.std.proofs.Common.{◌≡◌, ℕ, ◌+◌, ◌<◌, zero, suc, Bool, true, false, List, [], ◌∷◌, ◌++◌, length, take, drop, map, Option, Some, None, refl, sym, ap, ◌∙◌, subst, append_assoc, inl, inr, arith, tests}
+use Rattle.std.proofs.Common.{◌≡◌, ℕ, ◌+◌, ◌<◌, zero, suc, Bool, true, false, List, [], ◌∷◌, ◌++◌, length, take, drop, map, Some, refl, sym, ap, ◌∙◌, subst, append_assoc, inl, inr, arith, tests}
 use Rattle.std.specs.Prelude.{if◌then◌else◌}
-use Rattle.std.specs.List.{list_all}
 use Rattle.std.proofs.lemmas.List.{length-append, take-append-drop, append-nil}
 use Rattle.std.proofs.Math.Seq.{take-append-add, take-append_seam}
 use Rattle.felm_term.specs.Bytes.{is_allowed, begins_comment}
 use Rattle.felm_lexer.specs.declared.kind.TokenKind.{TokenKind}
 use Rattle.felm_lexer.specs.declared.token.Token.{Token}
 use Rattle.felm_lexer.specs.Spellings.{kind_of}
-use Rattle.felm_lexer.specs.Fronts.{Beginning, Space, Comment, Elsewhere, beginning, is_space, ends_line, IsBlank, IsComment, IsToken, IsNoToken, IsBadComment, IsGap, IsStuck}
+use Rattle.felm_lexer.specs.Fronts.{Space, Comment, Elsewhere, beginning, is_space, ends_line, IsBlank, IsComment, IsToken, IsBadComment, IsGap, IsStuck}
 use Rattle.felm_lexer.specs.Readings.{Reading, Whole, NoToken, TooWide, first_token, moved_token, moved, behind, fault_place, Reads, end, gap, token, wide, stuck}
 use Rattle.felm_lexer.proofs.Spans.{not_empty}
 

@@ -1,5 +1,5 @@
 -- Which tokens are names.
-use Rattle.std.proofs.Common.{◌≡◌, ℕ, ◌<◌, ◌^◌, ◌==◌, Bool, true, false, List, [], ◌∷◌, Option, Some, None, pos, refl, sym, ap, ◌∙◌, arith, tests}
+use Rattle.std.proofs.Common.{◌≡◌, ℕ, ◌<◌, ◌^◌, ◌==◌, true, false, List, [], ◌∷◌, Option, Some, None, pos, refl, arith, tests}
 use Rattle.std.specs.Prelude.{nat_lt, if◌then◌else◌}
 use Rattle.std.specs.List.{list_all}
 use Rattle.std.specs.Option.{option_map}
@@ -7,10 +7,9 @@ use Rattle.std.specs.Str.{IsUtf8}
 use Rattle.std.proofs.lemmas.List.Sums.{AllPass-from_list_all}
 use Rattle.std.proofs.lemmas.Str.{IsUtf8-from_ascii}
 use Rattle.std.proofs.lemmas.Str.Ascii.{IsAscii-from_all}
-use Rattle.felm_term.specs.Bytes.{is_letter, is_word_byte}
+use Rattle.felm_term.specs.Bytes.{is_word_byte}
 use Rattle.felm_term.specs.Decimal.{number_of, is_number}
 use Rattle.felm_lexer.specs.declared.kind.Symbol.{Symbol}
-use Rattle.felm_lexer.specs.declared.kind.WordKind.{WordKind}
 use Rattle.felm_lexer.specs.declared.kind.TokenKind.TheVariants as kind
 use Rattle.felm_lexer.specs.Spellings.{is_word, is_name, keyword_of, symbol_of, word_kind, number_kind, kind_of}
 

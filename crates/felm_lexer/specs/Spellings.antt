@@ -89,12 +89,12 @@ is_name bytes = is_word bytes && is_none (keyword_of bytes)
 abbrev pub is_spelling : List ℕ → Bool
 is_spelling bytes = is_word bytes || is_number bytes || is_some (symbol_of bytes)
 
--- a word with a keyword is that keyword, and another word a name
+-- the kind of a word, given the keyword that it is
 abbrev pub word_kind : Option WordKind → TokenKind
 word_kind None = kind.Name
 word_kind (Some keyword) = kind.Word keyword
 
--- a number below 2 ^ 63 is an INT, 2 ^ 63 itself is a BIG, and a greater number is no token
+-- the kind of a number: Int below 2 ^ 63, Big at 2 ^ 63, and none above
 abbrev pub number_kind : ℕ → Option TokenKind
 number_kind n =
     if nat_lt n (2 ^ 63) then Some (kind.Int (pos n))
