@@ -1,6 +1,6 @@
 //! Kinds of tokens.
 
-/// The keywords, and behind them, from `Merge` on, the reserved keywords.
+/// The keywords and, from `Merge` on, the reserved keywords. None of them is a name.
 #[derive(Clone, Copy, Debug, PartialEq, Eq)]
 pub enum WordKind {
     Input,
@@ -81,9 +81,9 @@ pub enum Symbol {
 pub enum TokenKind {
     /// A word that is no keyword.
     Name,
-    /// A number that an i64 holds.
+    /// A number of at most 9223372036854775807.
     Int(i64),
-    /// The number 9223372036854775808, which only its negative makes an i64.
+    /// The number 9223372036854775808, whose negative is the least i64.
     Big,
     /// A keyword or reserved keyword.
     Word(WordKind),

@@ -1,6 +1,7 @@
 //! Symbols.
 ghost use Rattle.std.specs.Prelude.{◌≡◌, ◌∷◌, []};
 ghost use Rattle.felm_lexer.specs.Spellings.{symbol_of};
+ghost use Rattle.felm_lexer.specs.Beginnings.{symbol_of_front};
 
 use crate::kind::Symbol;
 
@@ -28,7 +29,7 @@ pub fn symbol_of_one(byte: u8) -> Option<Symbol>
 
 /// The symbol of two bytes.
 #[tactic(auto, unfolding(crate::specs::Spellings::symbol_of, crate::specs::Spellings::symbols))]
-pub fn symbol_of_two(first: u8, second: u8) -> Option<Symbol>
+fn symbol_of_two(first: u8, second: u8) -> Option<Symbol>
     ensures { result ≡ symbol_of (first ∷ second ∷ []) }
 {
     match (first, second) {
@@ -40,6 +41,16 @@ pub fn symbol_of_two(first: u8, second: u8) -> Option<Symbol>
         (b'>', b'=') => Some(Symbol::GreaterEquals),
         (b'&', b'&') => Some(Symbol::DoubleAmpersand),
         (b'|', b'|') => Some(Symbol::DoubleBar),
+        _ => None,
+    }
+}
+
+/// The symbol of a text's first two bytes.
+pub fn symbol_of_front(text: &[u8]) -> Option<Symbol>
+    ensures { result ≡ symbol_of_front text.now }
+{
+    match text {
+        [first, second, ..] => symbol_of_two(*first, *second),
         _ => None,
     }
 }
