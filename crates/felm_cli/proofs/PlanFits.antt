@@ -17,6 +17,12 @@ use Rattle.felm_meaning.specs.Events.{has_type, fits, all_fit}
 use Rattle.felm_cli.specs.Fields.{filled_lines_of}
 use Rattle.felm_cli.specs.Program.{Named, Program, declared_of, declaration, is_declaration, shown_of, with_input, named_of, number_shown, settled_of, program_of}
 use Rattle.felm_cli.specs.Script.{event_with, event_of, events_of, limited, script_of}
+use Rattle.std.specs.Prelude.{nat_le}
+use Rattle.std.proofs.lemmas.List.{take_all}
+use borrow.Author.Tests.{leb-true}
+use Rattle.felm_meaning.proofs.Journals.{plain_is_front, plain_is_complete}
+use Rattle.felm_cli.specs.Plans.{Planned, planned_with, plan_of_texts}
+use Rattle.felm_cli.specs.Laws.{PlannedJournalIsTheScript, PlannedJournalIsComplete}
 use Rattle.felm_cli.proofs.Results.{list_all_item}
 
 abbrev takes_ints : InputTy → Bool
@@ -120,3 +126,51 @@ script_fits program script read events p s =
     let ints : list_all is_int read.inputs ≡ true = ap (list_all is_int) (sym inputs) ∙ all_ints (filled_lines_of program) n.0 n.1 in
     let all = chained limited (events_of (names_of read.inputs) (filled_lines_of script)) events s in
     ap (all_fit read.inputs) (limit_keeps all.0 events all.2) ∙ events_fit read.inputs (filled_lines_of script) all.0 ints all.1
+
+-- what is read of two texts that make a plan
+is_read : (program script : List ℕ) (plan : Planned) → plan_of_texts program script ≡ Some plan
+    → (program_of program ≡ Some (record { inputs = plan.inputs; main = plan.main })) × (script_of (names_of plan.inputs) script ≡ Some plan.script)
+is_read program script plan h =
+    let found = chosen _ (option_and_then (λ read. planned_with read script) (program_of program)) plan h in
+    let p = chained (λ read. planned_with read script) (program_of program) plan found in
+    let s = mapped (λ events. let it : Planned = record { inputs = p.0.inputs; main = p.0.main; script = events } in it) (script_of (names_of p.0.inputs) script) plan p.2 in
+    let read : p.0 ≡ record { inputs = plan.inputs; main = plan.main } =
+    ap (λ (it : Planned). let r : Program = record { inputs = it.inputs; main = it.main } in r) s.2 in
+    let inputs : p.0.inputs ≡ plan.inputs = ap (λ (it : Planned). it.inputs) s.2 in
+    let events : s.0 ≡ plan.script = ap (λ (it : Planned). it.script) s.2 in
+    (p.1 ∙ ap Some read, ap (λ is. script_of (names_of is) script) (sym inputs) ∙ s.1 ∙ ap Some events)
+
+few_events : (events kept : List Event) → limited events ≡ Some kept → length kept ≤ 1048576
+few_events events kept h =
+    (elim (nat_le (length events) 1048576) as (λ b. nat_le (length events) 1048576 ≡ b → (if b then Some events else None) ≡ Some kept → length kept ≤ 1048576) [
+      | true ↦ λ e g. let same : events ≡ kept = cc in subst (λ es. length es ≤ 1048576) same (leb-true _ _ e)
+      | false ↦ λ e g. cc
+    ]) refl h
+
+script_within : (program script : List ℕ) (plan : Planned) → plan_of_texts program script ≡ Some plan → length plan.script ≤ 1048576
+script_within program script plan h =
+    let all = chained limited (events_of (names_of plan.inputs) (filled_lines_of script)) plan.script (is_read program script plan h).1 in
+    few_events all.0 plan.script all.2
+
+pub journal_is_script : PlannedJournalIsTheScript
+journal_is_script program script plan h =
+    plain_is_front plan.script 1048576 ∙ take_all 1048576 plan.script (script_within program script plan h)
+
+main_within : (named : Named) (main : ℕ) → number_shown named ≡ Some main → main < length named.inputs
+main_within named main h =
+    let at = chosen _ (position (bytes_eq named.shown) (names_of named.inputs)) main h in
+    simp length-map at (position_within (bytes_eq named.shown) (names_of named.inputs) main at)
+
+carried_below : (a b : ℕ) (xs ys : List InputDecl) → a ≡ b → xs ≡ ys → a < length xs → b < length ys
+carried_below a b xs ys number list below = subst (λ n. n < length ys) number (subst (λ zs. a < length zs) list below)
+
+pub journal_is_complete : PlannedJournalIsComplete
+journal_is_complete program script plan h =
+    let r = is_read program script plan h in
+    let n = chained settled_of (named_of (filled_lines_of program)) (record { inputs = plan.inputs; main = plan.main }) r.0 in
+    let k = mapped (λ main. let it : Program = record { inputs = n.0.inputs; main = main } in it) (number_shown n.0) (record { inputs = plan.inputs; main = plan.main }) n.2 in
+    let inputs : n.0.inputs ≡ plan.inputs = ap (λ (p : Program). p.inputs) k.2 in
+    let main : k.0 ≡ plan.main = ap (λ (p : Program). p.main) k.2 in
+    let within : plan.main < length plan.inputs = carried_below k.0 plan.main n.0.inputs plan.inputs main inputs (main_within n.0 k.0 k.1) in
+    (plain_is_complete plan.inputs plan.script 1048576 (script_fits program script (record { inputs = plan.inputs; main = plan.main }) plan.script r.0 r.1)
+    (script_within program script plan h), within)

@@ -8,5 +8,6 @@ pub mod Status
 pub mod Words
 pub mod Fault
 pub mod Outcomes
+pub mod Laws
 pub mod Views
 pub mod Parts

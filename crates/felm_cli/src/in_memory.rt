@@ -1,6 +1,5 @@
 //! The top call over texts in memory.
 ghost use Rattle.std.specs.Prelude.{◌≡◌, ◌≢◌, map, string_bytes, None};
-ghost use Rattle.felm_io.specs.Held.{bytes_under};
 ghost use Rattle.felm_cli.specs.declared.status.Which.{Which};
 
 use crate::once::felm_once;

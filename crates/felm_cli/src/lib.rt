@@ -5,6 +5,7 @@ mod declaration;
 mod fault;
 mod fields;
 mod in_memory;
+mod laws;
 mod names;
 mod once;
 mod plans;
@@ -17,5 +18,6 @@ mod words;
 
 pub use fault::put_fault;
 pub use in_memory::felm_in_memory;
+pub use laws::{planned_journal_is_complete, planned_journal_is_the_script};
 pub use once::felm_once;
 pub use status::{Status, Which};
