@@ -21,3 +21,6 @@ pub use in_memory::felm_in_memory;
 pub use laws::{planned_journal_is_complete, planned_journal_is_the_script};
 pub use once::felm_once;
 pub use status::{Status, Which};
+
+#[cfg(test)]
+mod tests;
