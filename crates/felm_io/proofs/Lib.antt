@@ -1,1 +1,2 @@
+pub mod DiskFaults
 pub mod NamedTexts

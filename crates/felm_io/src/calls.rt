@@ -1,13 +1,12 @@
-ghost use Rattle.std.specs.Prelude.{◌≡◌, ℕ, [], ◌∷◌, ◌++◌, OnOk, OnErr};
-ghost use Rattle.felm_io.specs.Causes.{raised};
-ghost use Rattle.felm_io.specs.Calls.{next_fails, after_call};
+ghost use Rattle.std.specs.Prelude.{◌≡◌, OnOk, OnErr};
+ghost use Rattle.felm_io.specs.Calls.{no_calls, failing_at, next_fails, after_call};
 
 use felm_term::Memory;
 use std::alloc::Global;
 use std::marker::Model;
 
 /// The calls of an object in memory: how many there were, how many of them failed, and which ones
-/// are to fail.
+/// are to fail. Both numbers stay at the greatest u64.
 #[derive(Debug, Drop)]
 pub(crate) struct Calls {
     failing: Vec<u64>,
@@ -25,7 +24,7 @@ impl Model for Calls {
 
 impl Calls {
     pub(crate) fn make(alloc: Global) -> Self
-        ensures { result ≡ record { failing = []; made = 0; faults = 0 } }
+        ensures { result ≡ no_calls }
     {
         Calls {
             failing: Vec::new(alloc),
@@ -36,7 +35,7 @@ impl Calls {
 
     /// Lets the call with this number, counted from 1, fail.
     pub(crate) fn fail_at(&mut self, call: u64) -> Result<(), Memory>
-        ensures ok { OnOk result (self.new ≡ record self.old { failing = self.old.failing ++ call ∷ [] }) }
+        ensures ok { OnOk result (self.new ≡ failing_at self.old call) }
         ensures err { OnErr result (self.new ≡ self.old) }
     {
         self.failing.push(call).map_err(|_| Memory)

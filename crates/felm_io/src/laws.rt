@@ -1,3 +1,4 @@
+// Laws of the counts: functions that do nothing, for callers that cite their contracts.
 ghost use Rattle.std.specs.Prelude.{◌≡◌, ◌<◌, ◌-◌, ◌^◌, ◌↔◌, ◌⊎◌, List, ℕ, Vec, Result, IfErr};
 ghost use Rattle.std.specs.declared.alloc.Global.{Global};
 ghost use Rattle.felm_io.specs.Causes.{Rose, CountedLoad, CountedPut};
@@ -11,9 +12,11 @@ use crate::sink::Sink;
 use crate::sure_files::SureFiles;
 use crate::sure_sink::SureSink;
 
-/// A u64 rose where it is greater than before, or stands at the greatest u64.
+/// A u64 rose exactly where it is greater than before, or stands at the greatest u64. So a count that
+/// stays at 0 didn't.
 pub fn counts_rise()
-    ensures { (before now : ℕ) → now < 2 ^ 64 → (Rose before now ↔ ((before < now) ⊎ (now ≡ 2 ^ 64 - 1))) }
+    ensures never_at_zero { ¬ Rose 0 0 }
+    ensures exact { (before now : ℕ) → now < 2 ^ 64 → (Rose before now ↔ ((before < now) ⊎ (now ≡ 2 ^ 64 - 1))) }
 {}
 
 /// Over `SureFiles` no count rises, so that a load is refused only for want of memory.

@@ -1,4 +1,5 @@
-ghost use Rattle.std.specs.Prelude.{◌≡◌, ◌↔◌, [], ◌∷◌, ◌++◌, take, IsTrue, IfOk, IfSome, IsErrOf, OnOk, OnErr};
+ghost use Rattle.std.specs.Prelude.{◌≡◌, ◌↔◌, [], ◌∷◌, take, IsTrue, IfOk, IfSome, IsErrOf, OnOk, OnErr};
+ghost use Rattle.felm_io.specs.Calls.{no_calls, failing_at};
 ghost use Rattle.felm_io.specs.Texts.{text_under};
 
 use crate::calls::Calls;
@@ -9,7 +10,7 @@ use std::alloc::Global;
 use std::marker::Model;
 
 /// Texts in memory whose loads can be told to fail. A load of a name that isn't there fails too. All
-/// names share one count of faults.
+/// names share one count of faults, which stays at the greatest u64.
 #[derive(Debug, Drop)]
 pub struct MemoryFiles {
     texts: Texts,
@@ -25,11 +26,9 @@ impl Model for MemoryFiles {
 }
 
 impl MemoryFiles {
-    ghost use Rattle.felm_io.specs.Calls.{CallLog};
-
     /// No texts, and no load that is to fail. The allocator is kept for what is added.
     pub fn make(alloc: Global) -> Self
-        ensures { result ≡ record { texts = []; loads = record { failing = []; made = 0; faults = 0 } } }
+        ensures { result ≡ record { texts = []; loads = no_calls } }
     {
         MemoryFiles {
             texts: Texts::make(alloc),
@@ -48,7 +47,7 @@ impl MemoryFiles {
     /// Lets the load with this number fail. All loads of these files are counted, from 1, and those
     /// past the greatest u64 share that number.
     pub fn fail_at(&mut self, call: u64) -> Result<(), Memory>
-        ensures ok { OnOk result (let loads = record self.old.loads { failing = self.old.loads.failing ++ call ∷ [] } in self.new ≡ record self.old { loads = loads }) }
+        ensures ok { OnOk result (self.new ≡ record self.old { loads = failing_at self.old.loads call }) }
         ensures err { OnErr result (self.new ≡ self.old) }
     {
         self.loads.fail_at(call)

@@ -1,5 +1,5 @@
-ghost use Rattle.std.specs.Prelude.{◌≡◌, ◌<◌, ◌↔◌, [], ◌∷◌, ◌++◌, length, min, IsTrue, IfOk, IsErrOf, OnOk, OnErr};
-ghost use Rattle.felm_io.specs.Calls.{next_fails, after_call};
+ghost use Rattle.std.specs.Prelude.{◌≡◌, ◌<◌, ◌↔◌, [], length, min, IsTrue, IfOk, IsErrOf, OnOk, OnErr};
+ghost use Rattle.felm_io.specs.Calls.{no_calls, failing_at, next_fails, after_call};
 ghost use Rattle.felm_io.specs.Collected.{Collects};
 
 use crate::buffer::Buffer;
@@ -9,7 +9,8 @@ use felm_term::Memory;
 use std::alloc::Global;
 use std::marker::Model;
 
-/// A sink in memory that takes bytes in small pieces, and whose puts can be told to fail.
+/// A sink in memory that takes bytes in small pieces, and whose puts can be told to fail. Its counts
+/// stay at the greatest u64.
 #[derive(Debug, Drop)]
 pub struct MemorySink {
     most: usize,
@@ -34,7 +35,7 @@ impl MemorySink {
     pub fn make(alloc: Global, piece: usize) -> Self
         requires { 0 < piece }
         ensures most { result.most ≡ piece }
-        ensures puts { result.puts ≡ record { failing = []; made = 0; faults = 0 } }
+        ensures puts { result.puts ≡ no_calls }
         ensures gathered { result.gathered ≡ record { bytes = []; short = 0 } }
     {
         MemorySink {
@@ -47,7 +48,7 @@ impl MemorySink {
     /// Lets the put with this number fail. All puts to this sink are counted, from 1, and those past
     /// the greatest u64 share that number.
     pub fn fail_at(&mut self, call: u64) -> Result<(), Memory>
-        ensures ok { OnOk result (let puts = record self.old.puts { failing = self.old.puts.failing ++ call ∷ [] } in self.new ≡ record self.old { puts = puts }) }
+        ensures ok { OnOk result (self.new ≡ record self.old { puts = failing_at self.old.puts call }) }
         ensures err { OnErr result (self.new ≡ self.old) }
     {
         self.puts.fail_at(call)
