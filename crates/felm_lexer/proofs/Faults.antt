@@ -12,7 +12,7 @@ use Rattle.felm_lexer.specs.Readings.{Reading, Whole, NoToken, TooWide, first_to
 use Rattle.felm_lexer.proofs.Spans.{not_empty}
 
 -- the first byte of a text that begins with a blank, with a comment or elsewhere
-space_byte : (b : ℕ) (rest : List ℕ) → beginning (b ∷ rest) ≡ Space → is_space b ≡ true
+pub space_byte : (b : ℕ) (rest : List ℕ) → beginning (b ∷ rest) ≡ Space → is_space b ≡ true
 space_byte b rest e =
     (elim (is_space b) as (λ q. (if q then Space else (if begins_comment (b ∷ rest) then Comment else Elsewhere)) ≡ Space → q ≡ true) [
       | true ↦ λ f. refl
