@@ -22,6 +22,7 @@ all_allowed class allowed (b ∷ bytes) all =
     let rest : list_all class bytes ≡ true = grind (arith, all) in
     rw (allowed b here, all_allowed class allowed bytes rest) refl
 
+-- each class that a text is read by holds allowed bytes alone
 space_allowed : (b : ℕ) → is_space b ≡ true → is_allowed b ≡ true
 space_allowed b space = grind (arith, tests)
 
@@ -39,6 +40,7 @@ all_symbols_allowed : list_all (λ e. list_all is_allowed e.0) symbols ≡ true
 unfolding symbols
 all_symbols_allowed = refl
 
+-- what is found in a table of allowed bytes is allowed
 found_allowed : (bytes : List ℕ) (symbol : Symbol) (table : List (List ℕ × Symbol)) → list_all (λ e. list_all is_allowed e.0) table ≡ true
     → lookup (bytes_eq bytes) table ≡ Some symbol → list_all is_allowed bytes ≡ true
 found_allowed bytes symbol [] all found = absurd (cc)
@@ -50,20 +52,24 @@ found_allowed bytes symbol (e ∷ table) all found =
       | false ↦ λ f g. found_allowed bytes symbol table rest g
     ]) refl found
 
+-- a symbol holds allowed bytes alone
 symbol_allowed : (bytes : List ℕ) (symbol : Symbol) → symbol_of bytes ≡ Some symbol → list_all is_allowed bytes ≡ true
 unfolding symbol_of
 symbol_allowed bytes symbol found = found_allowed bytes symbol symbols all_symbols_allowed found
 
+-- so does a word
 word_allowed : (bytes : List ℕ) → is_word bytes ≡ true → list_all is_allowed bytes ≡ true
 word_allowed [] word = absurd (cc)
 word_allowed (c ∷ cs) word =
     let all : list_all is_word_byte (c ∷ cs) ≡ true = grind (arith, tests, word) in
     all_allowed is_word_byte word_byte_allowed (c ∷ cs) all
 
+-- so does a number
 number_allowed : (bytes : List ℕ) → is_number bytes ≡ true → list_all is_allowed bytes ≡ true
 number_allowed [] number = absurd (cc)
 number_allowed (c ∷ cs) number = all_allowed is_digit digit_allowed (c ∷ cs) number
 
+-- so does every spelling of a token
 spelling_allowed : (bytes : List ℕ) → is_spelling bytes ≡ true → list_all is_allowed bytes ≡ true
 spelling_allowed bytes spelled =
     (elim (is_word bytes) as (λ q. is_word bytes ≡ q → ((q || is_number bytes) || is_some (symbol_of bytes)) ≡ true → list_all is_allowed bytes ≡ true) [
@@ -77,12 +83,14 @@ spelling_allowed bytes spelled =
       ]) refl f
     ]) refl spelled
 
+-- so does what stands between tokens
 gap_allowed : (bytes rest : List ℕ) → IsGap bytes rest → list_all is_allowed bytes ≡ true
 gap_allowed bytes rest (inl is) =
     let space = space_byte is.byte rest (ap (λ l. beginning (l ++ rest)) (sym is.one) ∙ is.begins) in
     subst (λ l. list_all is_allowed l ≡ true) (sym is.one) (rw (space_allowed is.byte space) refl)
 gap_allowed bytes rest (inr is) = all_allowed is_comment_byte comment_byte_allowed bytes is.all
 
+-- two parts of allowed bytes make a text of allowed bytes
 both_allowed : (text bytes rest : List ℕ) → text ≡ bytes ++ rest → list_all is_allowed bytes ≡ true → list_all is_allowed rest ≡ true → list_all is_allowed text ≡ true
 both_allowed text bytes rest e first others =
     ap (list_all is_allowed) e ∙ list_all-append is_allowed bytes rest ∙ ap (λ q. q && list_all is_allowed rest) first ∙ others
@@ -92,11 +100,13 @@ record IsWhole (reading : Reading) : Type 0 where
   tokens : List Token
   is : reading ≡ Whole tokens
 
+-- a reading that is moved to a whole one is whole
 whole_from_moved : (n : ℕ) (reading : Reading) (ts : List Token) → moved n reading ≡ Whole ts → IsWhole reading
 whole_from_moved n (Whole tokens) ts e = record { tokens = tokens; is = refl }
 whole_from_moved n (NoToken at) ts e = absurd (cc)
 whole_from_moved n (TooWide at) ts e = absurd (cc)
 
+-- a reading that a token makes whole is whole
 whole_from_behind : (t : Token) (reading : Reading) (ts : List Token) → behind t reading ≡ Whole ts → IsWhole reading
 whole_from_behind t (Whole tokens) ts e = record { tokens = tokens; is = refl }
 whole_from_behind t (NoToken at) ts e = absurd (cc)

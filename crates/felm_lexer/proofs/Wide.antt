@@ -17,6 +17,7 @@ above_from_kind n e =
       ]) refl g
     ]) refl e
 
+-- a number over 2 ^ 63 has no kind
 kind_from_above : (n : ℕ) → 2 ^ 63 < n → number_kind n ≡ None
 kind_from_above n above =
     let below : nat_lt n (2 ^ 63) ≡ false = grind (arith, tests) in
