@@ -24,6 +24,7 @@ no_number n e =
       ]) f
     ]) e
 
+-- no symbol's kind is that of a name
 no_symbol : (found : Option Symbol) → option_map kind.Mark found ≡ Some kind.Name → ⊥
 no_symbol None e = cc
 no_symbol (Some symbol) e = cc
@@ -43,6 +44,7 @@ name_from_kind bytes e =
       ]) f
     ]) refl e
 
+-- a name's kind
 pub kind_from_name : (bytes : List ℕ) → is_name bytes ≡ true → kind_of bytes ≡ Some kind.Name
 unfolding kind_of
 kind_from_name bytes e =
@@ -54,6 +56,7 @@ kind_from_name bytes e =
       | false ↦ λ w. absurd (let f : is_name bytes ≡ false = rw w refl in cc)
     ]) refl
 
+-- a word byte is one of ASCII
 word_byte_is_ascii : (b : ℕ) → is_word_byte b ≡ true → b < 128
 word_byte_is_ascii b word = grind (arith, tests, word)
 

@@ -1,5 +1,5 @@
 -- How tokens are spelled.
-use Rattle.std.specs.Prelude.{ℕ, ◌^◌, ◌==◌, ◌&&◌, ◌||◌, Bool, false, List, [], ◌∷◌, Option, Some, None, codes, bytes_eq, nat_lt, pos, if◌then◌else◌}
+use Rattle.std.specs.Prelude.{◌≡◌, ℕ, ◌^◌, ◌<◌, ◌==◌, ◌&&◌, ◌||◌, Bool, true, false, List, [], ◌∷◌, Option, Some, None, codes, bytes_eq, nat_lt, pos, if◌then◌else◌}
 use Rattle.std.specs.List.{list_all}
 use Rattle.std.specs.Option.{is_some, is_none, option_map}
 use Rattle.std.specs.Map.{lookup}
@@ -106,3 +106,8 @@ kind_of bytes =
     if is_word bytes then Some (word_kind (keyword_of bytes))
     else (if is_number bytes then number_kind (number_of bytes)
     else option_map kind.Mark (symbol_of bytes))
+
+-- a number that is too wide to be a token
+pub record IsTooWide (bytes : List ℕ) : Type 0 where
+  pub number : is_number bytes ≡ true
+  pub above : 2 ^ 63 < number_of bytes
