@@ -1,14 +1,8 @@
 -- The types of terms.
-use Rattle.std.specs.Prelude.{◌≡◌, ℕ, ◌≤◌, zero, suc, IsTrue, List, [], ◌∷◌, ◌++◌, Option, Some, None}
+use Rattle.std.specs.Prelude.{◌≡◌, ◌≤◌, IsTrue, List, [], ◌∷◌, ◌++◌, Some, slice_get}
 use Rattle.felm_term.specs.CoreType.{CoreType, Unit, Int, Arrow, Signal, is_simple, is_signal, is_well_formed}
 use Rattle.felm_term.specs.CoreTerm.{CoreTerm, CoreTerms, count}
 use Rattle.felm_term.specs.CoreTerm as term
-
--- the type at a place, counted from 0
-abbrev pub type_at : List CoreType → ℕ → Option CoreType
-type_at [] n = None
-type_at (t ∷ ts) zero = Some t
-type_at (t ∷ ts) (suc n) = type_at ts n
 
 -- under the types of the inputs and of the shared signals
 module _ (inputs shared : List CoreType) where
@@ -17,9 +11,9 @@ module _ (inputs shared : List CoreType) where
     pub HasType : List CoreType → CoreTerm → CoreType → Type 0
     HasType g term.Unit u = u ≡ Unit
     HasType g (term.Int n) u = u ≡ Int
-    HasType g (term.Var n) u = type_at g n ≡ Some u
-    HasType g (term.Input n) u = type_at inputs n ≡ Some u
-    HasType g (term.Node n) u = type_at shared n ≡ Some u
+    HasType g (term.Var n) u = slice_get g n ≡ Some u
+    HasType g (term.Input n) u = slice_get inputs n ≡ Some u
+    HasType g (term.Node n) u = slice_get shared n ≡ Some u
     -- the annotation p and the function's own type are well formed
     HasType g (term.Lam p b) u =
         (r : CoreType) × (u ≡ Arrow p r) × IsTrue (is_well_formed p) × IsTrue (is_well_formed (Arrow p r)) × HasType (p ∷ g) b r
