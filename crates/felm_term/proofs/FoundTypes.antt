@@ -4,12 +4,12 @@ use Rattle.std.specs.Prelude.{slice_get}
 use Rattle.std.specs.Option.{option_copied, option_and_then}
 use Rattle.std.specs.List.{HoldsAt}
 use Rattle.std.proofs.lemmas.Option.{slice_get_past, slice_get_read}
-use Rattle.felm_term.specs.CoreType.{CoreType, Unit, Int, Arrow, Signal, is_simple, is_signal, is_well_formed}
+use Rattle.felm_term.specs.CoreType.{CoreType, Unit, Int, Arrow, Signal, is_simple, is_signal, is_well_formed, is_simple_signal}
 use Rattle.felm_term.specs.CoreTerm.{CoreTerm, CoreTerms, count}
 use Rattle.felm_term.specs.CoreTerm as term
 use Rattle.felm_term.specs.Typing.{HasType, AreTakenBy}
 use Rattle.felm_term.specs.declared.op.Op.{Op}
-use Rattle.felm_term.specs.FoundType.{same_type, when, function_type, result_type, is_int, operation_type, branch_type, let_type, is_signal_of, rest_type, keeps, folds, foldp_type, is_simple_signal, async_type, is_count_within, is_liftable, found_type, lifted_type, TypeIs}
+use Rattle.felm_term.specs.FoundType.{same_type, when, function_type, result_type, is_int, operation_type, branch_type, let_type, is_signal_of, rest_type, keeps, folds, foldp_type, async_type, is_count_within, is_liftable, found_type, lifted_type, TypeIs}
 
 -- an element that is lent, if there is one
 pub lent_at : {X : Type 0} (xs : List X) (n : ℕ) (r : Option (Bor X))

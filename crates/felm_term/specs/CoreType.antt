@@ -31,3 +31,8 @@ is_signal (Signal of) = is_simple of
 -- in one of the two layers
 abbrev pub is_well_formed : CoreType → Bool
 is_well_formed type = is_simple type || is_signal type
+
+-- the signal of a simple type, as inputs and shared signals are
+abbrev pub is_simple_signal : CoreType → Bool
+is_simple_signal (Signal of) = is_simple of
+is_simple_signal _ = false

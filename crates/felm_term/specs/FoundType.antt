@@ -1,7 +1,7 @@
 -- The type of a term as a function of the types of what it names.
 use Rattle.std.specs.Prelude.{ℕ, zero, suc, Bool, true, false, not, ◌&&◌, List, ◌∷◌, Option, Some, None, if◌then◌else◌, slice_get}
 use Rattle.std.specs.Option.{option_and_then}
-use Rattle.felm_term.specs.CoreType.{CoreType, Unit, Int, Arrow, Signal, is_simple, is_signal, is_well_formed}
+use Rattle.felm_term.specs.CoreType.{CoreType, Unit, Int, Arrow, Signal, is_simple, is_signal, is_well_formed, is_simple_signal}
 use Rattle.felm_term.specs.CoreTerm.{CoreTerm, CoreTerms}
 use Rattle.felm_term.specs.CoreTerm as term
 use Rattle.felm_term.specs.Typing.{HasType}
@@ -59,10 +59,6 @@ folds _ r s = false
 -- of a foldp, by its function's, its base's and its signal's types
 abbrev pub foldp_type : CoreType → CoreType → CoreType → Option CoreType
 foldp_type f r s = when (is_simple f && folds f r s) (Signal r)
-
-abbrev pub is_simple_signal : CoreType → Bool
-is_simple_signal (Signal t) = is_simple t
-is_simple_signal _ = false
 
 abbrev pub async_type : CoreType → Option CoreType
 async_type s = when (is_simple_signal s) s

@@ -1,6 +1,7 @@
 -- The types of terms.
 use Rattle.std.specs.Prelude.{◌≡◌, ◌≤◌, IsTrue, List, [], ◌∷◌, ◌++◌, Some, slice_get}
-use Rattle.felm_term.specs.CoreType.{CoreType, Unit, Int, Arrow, Signal, is_simple, is_signal, is_well_formed}
+use Rattle.felm_term.specs.CoreType.{CoreType, Int, Arrow, Signal, is_simple, is_signal, is_well_formed, is_simple_signal}
+use Rattle.felm_term.specs.CoreType as type
 use Rattle.felm_term.specs.CoreTerm.{CoreTerm, CoreTerms, count}
 use Rattle.felm_term.specs.CoreTerm as term
 
@@ -9,7 +10,7 @@ module _ (inputs shared : List CoreType) where
   abbrev mutual
     -- the term has type u under the types g of its binders, the nearest first
     pub HasType : List CoreType → CoreTerm → CoreType → Type 0
-    HasType g term.Unit u = u ≡ Unit
+    HasType g term.Unit u = u ≡ type.Unit
     HasType g (term.Int n) u = u ≡ Int
     HasType g (term.Var n) u = slice_get g n ≡ Some u
     HasType g (term.Input n) u = slice_get inputs n ≡ Some u
@@ -37,6 +38,11 @@ module _ (inputs shared : List CoreType) where
     AreTakenBy g p term.End r = p ≡ r
     AreTakenBy g p (term.More t ts) r =
         (q : CoreType) × (rest : CoreType) × (p ≡ Arrow q rest) × HasType g t (Signal q) × AreTakenBy g rest ts r
+
+-- all of them are signals of simple types, as the inputs' are
+abbrev pub AreSignals : List CoreType → Type 0
+AreSignals [] = Unit {0}
+AreSignals (t ∷ ts) = IsTrue (is_simple_signal t) × AreSignals ts
 
 -- each shared signal is a signal under those before it; all of them have the types `after`
 abbrev pub AreShared : List CoreType → List CoreType → List CoreTerm → List CoreType → Type 0

@@ -1,5 +1,5 @@
 ghost use Rattle.std.specs.Prelude.{◌≡◌, IfOk, IsTrue, ◌↔◌};
-ghost use Rattle.felm_term.specs.CoreType.{is_simple, is_signal, is_well_formed};
+ghost use Rattle.felm_term.specs.CoreType.{is_simple, is_signal, is_well_formed, is_simple_signal};
 ghost use Rattle.felm_term.specs.TypeView.{type_of_form};
 
 use crate::memory::{Memory, boxed};
@@ -84,6 +84,16 @@ impl Ty {
         ensures { result ≡ is_well_formed self.now }
     {
         self.is_simple() || self.is_signal()
+    }
+
+    /// The signal of a simple type, as inputs and shared signals are.
+    pub fn is_simple_signal(&self) -> bool
+        ensures { result ≡ is_simple_signal self.now }
+    {
+        match &self.form {
+            TyForm::Signal(of) => of.is_simple(),
+            _ => false,
+        }
     }
 }
 

@@ -1,6 +1,6 @@
 ghost use Rattle.std.specs.Prelude.{◌≡◌, IfOk, slice_get};
 ghost use Rattle.std.specs.Option.{option_copied};
-ghost use Rattle.felm_term.specs.FoundType.{TypeIs, when, same_type, function_type, result_type, operation_type, branch_type, let_type, rest_type, is_int, is_signal_of, keeps, folds, foldp_type, is_simple_signal, async_type, is_count_within, is_liftable, found_type, lifted_type};
+ghost use Rattle.felm_term.specs.FoundType.{TypeIs, when, same_type, function_type, result_type, operation_type, branch_type, let_type, rest_type, is_int, is_signal_of, keeps, folds, foldp_type, async_type, is_count_within, is_liftable, found_type, lifted_type};
 ghost use Rattle.felm_term.specs.Scope.{types_in};
 
 use crate::memory::{Memory, boxed};
@@ -275,19 +275,10 @@ fn foldp_type(alloc: Global, function: &Ty, base: Ty, signal: &Ty) -> Result<Opt
     Ok(when(holds, folded))
 }
 
-fn is_simple_signal(ty: &Ty) -> bool
-    ensures { result ≡ is_simple_signal ty.now }
-{
-    match &ty.form {
-        TyForm::Signal(of) => of.is_simple(),
-        _ => false,
-    }
-}
-
 fn async_type(signal: Ty) -> Option<Ty>
     ensures { result ≡ async_type signal }
 {
-    when(is_simple_signal(&signal), signal)
+    when(signal.is_simple_signal(), signal)
 }
 
 fn is_liftable(terms: &Terms) -> bool

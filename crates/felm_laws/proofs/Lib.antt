@@ -1,0 +1,11 @@
+pub mod Layers
+pub mod Weakening
+pub mod Substituted
+pub mod Formed
+pub mod OneNext
+pub mod StepTypes
+pub mod Progress
+pub mod SimpleTerms
+pub mod StepLaws
+pub mod CallLaws
+pub mod NeverStuck

@@ -1,0 +1,4 @@
+pub mod Calls
+pub mod TypeLaws
+pub mod StepLaws
+pub mod CallLaws
