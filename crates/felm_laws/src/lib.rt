@@ -2,10 +2,12 @@
 #![tactic(auto)]
 
 mod calls;
+mod rows;
 mod steps;
 mod types;
 
 pub use calls::{call_computes, one_call};
+pub use rows::{rows_of_calls, rows_of_steps, rows_of_types};
 pub use steps::{
     one_end, one_next_pair, pairs_never_stick, signal_terms_are_finished,
     simple_terms_never_stick, steps_keep_types, steps_share_signal_terms, values_stay,
