@@ -104,8 +104,8 @@ simple_steps u c h (more r s) =
 simple_progress : (e : CoreTerm) (u : CoreType) → IsTrue (is_simple u) → HasType [] [] [] e u → IsValue e ⊎ GoesOnAlone e u
 simple_progress e u c h =
     elim (progress [] [] tt tt [] e u h) [
-      inl v ↦ inl v
-    | inr r ↦ elim r [ inl s ↦ absurd (no_signal u c (signal_type [] [] tt tt [] e u s h)) | inr g ↦ inr (goes_on_alone e u c h g) ]
+      | inl v ↦ inl v
+      | inr r ↦ elim r [ inl s ↦ absurd (no_signal u c (signal_type [] [] tt tt [] e u s h)) | inr g ↦ inr (goes_on_alone e u c h g) ]
     ]
   where
     goes_on_alone : (e : CoreTerm) (u : CoreType) → IsTrue (is_simple u) → HasType [] [] [] e u → Goes [] e → GoesOnAlone e u

@@ -84,9 +84,12 @@ module _ (inputs : List CoreType) (wi : AreSignals inputs) where
     step_typed s u (app {B} {p} {a} {b}) w h =
         let from : h.0 ≡ p = from_arrow h.1.1 in
         let to : u ≡ h.1.0 = to_arrow h.1.1 in
-        same s B (Let b a) u w
-            (p, subst (λ x. HasType inputs s [] b x) from h.2, subst (λ x. HasType inputs s (p ∷ []) a x) (sym to) h.1.4,
-                λ g. rw to (signal_result p h.1.0 h.1.3 g))
+        same s B (Let b a) u w (
+          p,
+          subst (λ x. HasType inputs s [] b x) from h.2,
+          subst (λ x. HasType inputs s (p ∷ []) a x) (sym to) h.1.4,
+          λ g. rw to (signal_result p h.1.0 h.1.3 g),
+        )
     step_typed s u (letv {B} {v} {a} x) w h = same s B (substitute v a) u w (substitute_typed inputs s v a h.0 u h.1 h.2)
     step_typed s u (share {B} {s = t} {a} x) w h = one_shared s B t a h.0 u x w h.1 h.2
     step_typed s u (in_function {a} r) w h =
