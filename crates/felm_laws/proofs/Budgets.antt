@@ -3,7 +3,7 @@ use Rattle.std.proofs.Common.{◌≡◌, ◌↔◌, ℕ, suc, zero, ◌≤◌, L
 use Rattle.felm_term.specs.CoreType.{CoreType}
 use Rattle.felm_term.specs.CoreTerm.{CoreTerm}
 use Rattle.felm_term.specs.Typing.{HasType, IsSimplyTyped}
-use Rattle.felm_term.specs.Reduction.{IsValue, Step, Steps, none, more}
+use Rattle.felm_term.specs.Reduction.{IsValue, Steps, none, more}
 use Rattle.felm_term.specs.Call.{ReachesValue}
 use Rattle.felm_laws.specs.StepLaws.{GoesOnAlone}
 use Rattle.felm_laws.specs.OutcomeLaws.{HasValueWithin, TakesMoreThan}

@@ -1,5 +1,5 @@
 -- A typed pair never gets stuck.
-use Rattle.std.proofs.Common.{◌≡◌, ℕ, List, [], ◌⊎◌, inl, inr, refl}
+use Rattle.std.proofs.Common.{ℕ, List, [], ◌⊎◌, inl, inr, refl}
 use Rattle.felm_term.specs.CoreType.{CoreType}
 use Rattle.felm_term.specs.CoreTerm.{CoreTerm}
 use Rattle.felm_term.specs.Typing.{HasType, AreSignals, PairHasType}

@@ -1,5 +1,5 @@
 -- A typed pair is finished, has a value, or goes on.
-use Rattle.std.proofs.Common.{◌≡◌, ◌++◌, List, [], ◌∷◌, length, true, IsTrue, ℤ, refl, sym, subst, if◌then◌else◌, ◌⊎◌, inl, inr}
+use Rattle.std.proofs.Common.{◌≡◌, ◌++◌, List, [], ◌∷◌, length, IsTrue, ℤ, refl, sym, subst, if◌then◌else◌, ◌⊎◌, inl, inr}
 use Rattle.felm_term.specs.CoreType.{CoreType, Arrow, Signal, is_simple, is_simple_signal}
 use Rattle.felm_term.specs.CoreType as type
 use Rattle.felm_term.specs.CoreTerm.{CoreTerm, CoreTerms, Int, Var, Lam, App, Bin, If, Let, Input, Node, Lift, Foldp, Async, End, More}

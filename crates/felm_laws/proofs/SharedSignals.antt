@@ -1,5 +1,5 @@
 -- What a step shares, and how a program goes on.
-use Rattle.std.proofs.Common.{◌≡◌, ℕ, ◌+◌, List, [], ◌∷◌, ◌++◌, length, ◌⊎◌, inl, inr, refl, arith}
+use Rattle.std.proofs.Common.{◌≡◌, ℕ, List, [], ◌∷◌, ◌++◌, length, ◌⊎◌, inl, inr, refl, arith}
 use Rattle.felm_term.specs.CoreType.{CoreType, Signal}
 use Rattle.felm_term.specs.CoreTerm.{CoreTerm, CoreTerms}
 use Rattle.felm_term.specs.Typing.{HasType, AreSignals, AreShared, PairHasType}

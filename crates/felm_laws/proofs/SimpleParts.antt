@@ -1,5 +1,5 @@
 -- The forms of closed terms of a simple type, and the parts at which these step.
-use Rattle.std.proofs.Common.{◌≡◌, ℕ, Some, [], refl}
+use Rattle.std.proofs.Common.{ℕ, [], refl}
 use Rattle.felm_term.specs.CoreType.{Arrow}
 use Rattle.felm_term.specs.CoreType as type
 use Rattle.felm_term.specs.CoreTerm.{CoreTerm, CoreTerms, Var, App, Bin, If, Let, Input, Node, Lift, Foldp, Async}

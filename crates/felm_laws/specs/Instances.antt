@@ -1,28 +1,15 @@
--- Runs worked by hand, each to its end and with its number of steps, and numbers that operators give.
+-- Runs worked by hand, to values and to finished pairs, each with its number of steps; and numbers that operators give.
 use Rattle.std.specs.Prelude.{◌≡◌, ℕ, List, [], ◌∷◌, ℤ, pos, negsuc}
 use Rattle.felm_term.specs.CoreType.{Arrow, Signal}
-use Rattle.felm_term.specs.CoreTerm.{CoreTerm, CoreTerms, Int, Var, Lam, App, Bin, If, Let, Node, Lift, Foldp, Async, End, More}
+use Rattle.felm_term.specs.CoreTerm.{CoreTerm, Var, Lam, App, Bin, If, Let, Node, Lift, Async, End, More}
 use Rattle.felm_term.specs.Operators.{apply_op}
-use Rattle.felm_term.specs.Reduction.{HasNoStep, Steps}
+use Rattle.felm_term.specs.Reduction.{Steps, IsFinished}
+use Rattle.felm_term.specs.Call.{ReachesValue}
 use Rattle.felm_term.specs.declared.op.Op.{Op}
 use Rattle.felm_term.specs.declared.op.Op.TheVariants as op
 use Rattle.felm_laws.specs.Rows.{int, number, x, successor, sum}
 
--- ---- runs
-
--- a term, and the pair without a step that so many steps lead to
-pub record RunRow : Type 0 where
-  pub start : CoreTerm
-  pub count : ℕ
-  pub shared : List CoreTerm
-  pub end : CoreTerm
-
-abbrev pub run : CoreTerm → ℕ → List CoreTerm → CoreTerm → RunRow
-run e n B f = record { start = e; count = n; shared = B; end = f }
-
-abbrev pub AreRuns : List RunRow → Type 0
-AreRuns [] = Unit {0}
-AreRuns (r ∷ rows) = (Steps r.count [] r.start r.shared r.end × HasNoStep r.shared r.end) × AreRuns rows
+-- ---- terms of the runs
 
 -- 3 - 3
 abbrev pub nothing : CoreTerm
@@ -40,30 +27,71 @@ add_two = Lam int (Bin op.Add (Var 0) (number 2))
 abbrev pub lifted_successor : CoreTerm
 lifted_successor = Lam (Signal int) (Lift successor (More (Var 0) End))
 
-abbrev pub run_rows : List RunRow
-run_rows =
+-- \p:int.\q:int. p + q
+abbrev pub add : CoreTerm
+add = Lam int (Lam int (Bin op.Add (Var 1) (Var 0)))
+
+-- ---- runs to values
+
+-- a term, and the value that so many steps lead to
+pub record ValueRow : Type 0 where
+  pub start : CoreTerm
+  pub count : ℕ
+  pub value : CoreTerm
+
+abbrev pub value_in : ℕ → CoreTerm → CoreTerm → ValueRow
+value_in n e v = record { start = e; count = n; value = v }
+
+abbrev pub AreValues : List ValueRow → Type 0
+AreValues [] = Unit {0}
+AreValues (r ∷ rows) = ReachesValue r.start r.count r.value × AreValues rows
+
+abbrev pub value_rows : List ValueRow
+value_rows =
     -- (\n:int. n + 1) 4 by APP, LETV, OP
-    run (App successor (number 4)) 3 [] (number 5)
-    -- if 0 then 1 else 2 by COND; a condition in a condition comes first
-    ∷ run (If (number 0) (number 1) (number 2)) 1 [] (number 2)
-    ∷ run (If (If (number 1) (number 0) (number 1)) (number 2) (number 3)) 2 [] (number 3)
-    -- both operands are evaluated, also where one is enough
-    ∷ run (Bin op.And nothing sum) 3 [] (number 0)
-    ∷ run (Bin op.And sum nothing) 3 [] (number 0)
-    ∷ run (Bin op.Or sum nothing) 3 [] (number 1)
-    -- (\n:int. 7) (1 + 2) by APP, then OP in the bound part, then LETV
-    ∷ run (App (Lam int (number 7)) sum) 3 [] (number 7)
+    value_in 3 (App successor (number 4)) (number 5)
+    -- if 0 then 1 else 2 by COND, and a condition that is a conditional
+    ∷ value_in 1 (If (number 0) (number 1) (number 2)) (number 2)
+    ∷ value_in 2 (If (If (number 1) (number 0) (number 1)) (number 2) (number 3)) (number 3)
+    -- both operands are evaluated, also where one would be enough
+    ∷ value_in 3 (Bin op.And nothing sum) (number 0)
+    ∷ value_in 3 (Bin op.And sum nothing) (number 0)
+    ∷ value_in 3 (Bin op.Or sum nothing) (number 1)
+    -- (\n:int. 7) (1 + 2) by APP, OP in the bound part, LETV
+    ∷ value_in 3 (App (Lam int (number 7)) sum) (number 7)
     -- let f = \n:int. n + 1 in f (f 0) by LETV, APP; APP, LETV, OP in the bound part; LETV, OP
-    ∷ run (Let successor (App (Var 0) (App (Var 0) (number 0)))) 7 [] (number 2)
-    -- (\f:int->int.\s:int. f s) (\s:int. s + 2) 0 by APP and LETV twice, then APP, LETV, OP
-    ∷ run (App (App apply add_two) (number 0)) 7 [] (number 2)
+    ∷ value_in 7 (Let successor (App (Var 0) (App (Var 0) (number 0)))) (number 2)
+    -- (\f:int->int.\s:int. f s) (\s:int. s + 2) 0 by APP, LETV in the function; APP, LETV, APP, LETV, OP
+    ∷ value_in 7 (App (App apply add_two) (number 0)) (number 2)
+    ∷ []
+
+-- ---- runs to finished pairs
+
+-- a term, and the finished pair that so many steps lead to
+pub record FinishRow : Type 0 where
+  pub start : CoreTerm
+  pub count : ℕ
+  pub shared : List CoreTerm
+  pub last : CoreTerm
+
+abbrev pub finish_in : ℕ → CoreTerm → List CoreTerm → CoreTerm → FinishRow
+finish_in n e B f = record { start = e; count = n; shared = B; last = f }
+
+abbrev pub AreFinished : List FinishRow → Type 0
+AreFinished [] = Unit {0}
+AreFinished (r ∷ rows) = (Steps r.count [] r.start r.shared r.last × IsFinished r.shared r.last) × AreFinished rows
+
+abbrev pub finish_rows : List FinishRow
+finish_rows =
+    -- x, at once
+    finish_in 0 x [] x
     -- let a = x in let b = a in b by SHARE twice
-    ∷ run (Let x (Let (Var 0) (Var 0))) 2 (x ∷ Node 0 ∷ []) (Node 1)
+    ∷ finish_in 2 (Let x (Let (Var 0) (Var 0))) (x ∷ Node 0 ∷ []) (Node 1)
     -- let a = async x in lift2 (\p:int.\q:int. p + q) a a by SHARE, so that a is one signal
-    ∷ run (Let (Async x) (Lift (Lam int (Lam int (Bin op.Add (Var 1) (Var 0)))) (More (Var 0) (More (Var 0) End)))) 1
-    (Async x ∷ []) (Lift (Lam int (Lam int (Bin op.Add (Var 1) (Var 0)))) (More (Node 0) (More (Node 0) End)))
+    ∷ finish_in 1 (Let (Async x) (Lift add (More (Var 0) (More (Var 0) End))))
+    (Async x ∷ []) (Lift add (More (Node 0) (More (Node 0) End)))
     -- let f = \s:signal int. lift1 (\n:int. n + 1) s in f (f x) by LETV, APP; APP, SHARE in the bound part; SHARE
-    ∷ run (Let lifted_successor (App (Var 0) (App (Var 0) x))) 5
+    ∷ finish_in 5 (Let lifted_successor (App (Var 0) (App (Var 0) x)))
     (x ∷ Lift successor (More (Node 0) End) ∷ []) (Lift successor (More (Node 1) End))
     ∷ []
 

@@ -1,4 +1,4 @@
-use Rattle.std.proofs.Common.{List, [], ◌∷◌, ◌≡◌, refl, ℤ}
+use Rattle.std.proofs.Common.{refl}
 use Rattle.std.specs.Int.{int_wrap}
 use Rattle.felm_laws.proofs.instances.operators_worked_by_hand.Goals as goal
 

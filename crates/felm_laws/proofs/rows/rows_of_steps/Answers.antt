@@ -1,10 +1,10 @@
-use Rattle.std.proofs.Common.{List, [], ◌∷◌}
+use Rattle.std.proofs.Common.{List, []}
 use Rattle.std.specs.Int.{int_wrap}
 use Rattle.felm_term.specs.CoreTerm.{CoreTerm, Lam, App, Bin, Lift, Foldp, Async, Var, More, End}
 use Rattle.felm_term.specs.CoreTerm as term
 use Rattle.felm_term.specs.Reduction.{Step, HasNoStep, op, cond, app, letv, share, in_function, in_left, in_right, in_condition, in_bound, in_lifted, in_arguments, in_folded, in_base, in_signal, in_async, in_first, in_rest}
 use Rattle.felm_term.specs.declared.op.Op.TheVariants as operator
-use Rattle.felm_laws.specs.Rows.{sum, int, number, x, click, counter}
+use Rattle.felm_laws.specs.Rows.{sum, x}
 use Rattle.felm_laws.proofs.OneNext.{value_stays, signal_stays}
 use Rattle.felm_laws.proofs.rows.rows_of_steps.Goals as goal
 
