@@ -1,7 +1,7 @@
 use Rattle.std.specs.Prelude.{ℕ, List, ◌++◌, codes}
 use Rattle.std.specs.Fmt.{signed_decimal}
 use Rattle.felm_term.specs.declared.value.Value.{Value}
-use Rattle.felm_term.specs.declared.value.Value.TheVariants.{Unit as UnitValue, Int}
+use Rattle.felm_term.specs.declared.value.Value.TheVariants.{Unit as UnitValue, Int, Fun}
 use Rattle.felm_term.specs.declared.message.Message.{Message}
 use Rattle.felm_term.specs.declared.message.Message.TheVariants.{Change, NoChange}
 
@@ -9,6 +9,7 @@ use Rattle.felm_term.specs.declared.message.Message.TheVariants.{Change, NoChang
 abbrev pub value_text : Value → List ℕ
 value_text UnitValue = codes "()"
 value_text (Int number) = signed_decimal number
+value_text (Fun function) = codes "<fun>"
 
 -- a message as it is printed
 abbrev pub message_text : Message → List ℕ

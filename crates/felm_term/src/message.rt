@@ -1,4 +1,5 @@
 ghost use Rattle.std.specs.Prelude.{◌≡◌, IfOk, IsOk};
+ghost use Rattle.felm_term.specs.Values.{value_of, IsPlain};
 
 use crate::list::Items;
 use crate::memory::Memory;
@@ -18,10 +19,10 @@ pub enum Message {
 pub type Messages = Items<Message>;
 
 impl Message {
-    /// An equal message.
+    /// An equal message. It can't be refused where its value is no function.
     pub fn copy(&self) -> Result<Message, Memory>
         ensures value { IfOk result (λ copy. copy ≡ self.now) }
-        ensures sure { IsOk result }
+        ensures plain { IsPlain (value_of self.now) → IsOk result }
     {
         match self {
             Message::Change(value) => Ok(Message::Change(value.copy()?)),
