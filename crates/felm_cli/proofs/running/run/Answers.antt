@@ -1,8 +1,7 @@
-use Rattle.std.proofs.Common.{◌<◌, ◌∙◌, take, get_or, ap, arith, length}
+use Rattle.std.proofs.Common.{◌≡◌, ◌<◌, ◌∙◌, Some, take, ap, sym, arith, length}
 use Rattle.std.specs.Prelude.{min}
+use Rattle.std.specs.List.{slice_get}
 use Rattle.std.proofs.lemmas.Option.{slice_get-get_or}
-use Rattle.felm_term.specs.declared.event.Event.{Event}
-use Rattle.felm_term.specs.declared.value.Value.TheVariants as value
 use Rattle.felm_cli.proofs.Runs.{journal_next, message_next, value_next, outputs_next, run_ends}
 use Rattle.felm_cli.proofs.running.run.Goals as goal
 
@@ -12,10 +11,9 @@ loop-event-preserved c =
     let journal = take c.min-count.result c.as_slice.result.now in
     let main = c.args.plan.now.main in
     let i = c.loop-event.event-index in
-    let nothing : Event = record { source = 0; value = value.Unit } in
-    let event = get_or journal i nothing in
+    let event = c.event-item.result in
     let within : i < length journal = omega arith in
-    let here = slice_get-get_or journal i nothing within in
+    let here : slice_get journal i ≡ Some event = slice_get-get_or journal i event within ∙ ap Some (sym c.event-item.is) in
     record {
       journal = journal_next journal i c.loop-event.journal.items c.push.new.self.items event c.in_ok-copy.field-0 here c.loop-event.invariant.journal c.in_ok-copy.ensures c.in_ok-push.ensures.ok;
       value = value_next inputs journal main i event c.loop-event.value c.in_ok-value.value c.in_ok-message.message here c.loop-event.invariant.value
