@@ -1,6 +1,5 @@
 ghost use Rattle.std.specs.Prelude.{◌≡◌, ◌↔◌, [], ◌∷◌, take, IsTrue, IfOk, IfSome, IsErrOf, OnOk, OnErr};
 ghost use Rattle.felm_io.specs.Calls.{no_calls, failing_at};
-ghost use Rattle.felm_io.specs.Texts.{text_under};
 
 use crate::calls::Calls;
 use crate::files::{Files, LoadFail};
