@@ -1,22 +1,34 @@
 //! `felm sync PROGRAM SCRIPT` runs a program on a script of events and prints what it says.
 #![tactic(auto)]
 
-use felm_cli::{Status, felm_once};
+use felm_cli::{Status, felm_once, put_fault};
 use felm_io::{DiskFiles, StreamSink};
-use std::env;
 use std::process::ExitCode;
+use std::{env, io, rt};
+
+/// The words of the command line, without the program's own name. A word that isn't text is a
+/// faulty command line.
+fn command_words<R: rt::Env + AllocGlobal>(rt: &R) -> Result<Vec<String>, Status> {
+    let args = match env::args(rt) {
+        Ok(args) => args,
+        Err(fault) if fault.kind() == io::ErrorKind::OutOfMemory => return Err(Status::Memory),
+        Err(_) => return Err(Status::Usage),
+    };
+    args.skip(1).collect(rt.alloc()).map_err(|_| Status::Memory)
+}
 
 fn main(rt: HostRuntime) -> ExitCode {
-    let alloc = rt.alloc();
-    let Ok(args) = env::args(&rt) else {
-        return ExitCode::from(Status::Usage.code());
-    };
-    let Ok(words) = args.skip(1).collect::<Vec<String>>(alloc) else {
-        return ExitCode::from(Status::Memory.code());
-    };
-    let mut files = DiskFiles::make(&rt);
-    let mut out = StreamSink::make(rt.stdout());
     let mut err = StreamSink::make(rt.stderr());
-    let status = felm_once(alloc, words.as_slice(), &mut files, &mut out, &mut err);
+    let status = match command_words(&rt) {
+        Ok(words) => {
+            let mut files = DiskFiles::make(&rt);
+            let mut out = StreamSink::make(rt.stdout());
+            felm_once(rt.alloc(), words.as_slice(), &mut files, &mut out, &mut err)
+        }
+        Err(status) => {
+            let _ = put_fault(&status, "", &mut err);
+            status
+        }
+    };
     ExitCode::from(status.code())
 }

@@ -1,15 +1,16 @@
 -- The text of the run of a plan.
 use Rattle.std.proofs.Common.{◌≡◌, ℕ, suc, zero, ◌&&◌, Bool, true, false, List, [], ◌∷◌, length, take, IsTrue, refl, sym, ap, ◌∙◌}
+use Rattle.std.specs.Prelude.{nat_lt}
 use Rattle.std.specs.List.{list_all}
 use Rattle.felm_term.specs.declared.event.Event.{Event}
 use Rattle.felm_term.specs.declared.input.InputDecl.{InputDecl}
 use Rattle.felm_meaning.specs.declared.plan.Plan.{Plan}
 use Rattle.felm_meaning.specs.declared.plan.History.{History}
-use Rattle.felm_meaning.specs.Events.{fits, all_fit}
+use Rattle.felm_meaning.specs.Events.{all_fit, all_of_inputs}
 use Rattle.felm_meaning.specs.Meaning.{messages_of, default_of}
 use Rattle.felm_meaning.specs.Journals.{plain_journal}
 use Rattle.felm_meaning.proofs.Messages.{length-messages_after}
-use Rattle.felm_meaning.proofs.Journals.{plain_is_front}
+use Rattle.felm_meaning.proofs.Journals.{plain_is_front, fit_of_inputs}
 use Rattle.felm_cli.specs.History.{IsRun}
 use Rattle.felm_cli.specs.Plans.{planned}
 use Rattle.felm_cli.specs.Text.{history_text, plan_text}
@@ -25,10 +26,11 @@ list_all-take p (suc n) (x ∷ xs) h =
     ]) refl h
 
 pub journal_fits : (plan : Plan) (history : History) → all_fit plan.inputs.items plan.script.items ≡ true → IsRun plan history
-    → all_fit plan.inputs.items history.journal.items ≡ true
+    → all_of_inputs plan.inputs.items history.journal.items ≡ true
 journal_fits plan history fit run =
-    ap (all_fit plan.inputs.items) (run.journal ∙ plain_is_front plan.script.items plan.limits.journal)
-    ∙ list_all-take (fits plan.inputs.items) plan.limits.journal plan.script.items fit
+    ap (all_of_inputs plan.inputs.items) (run.journal ∙ plain_is_front plan.script.items plan.limits.journal)
+    ∙ list_all-take (λ event. nat_lt event.source (length plan.inputs.items)) plan.limits.journal plan.script.items
+    (fit_of_inputs plan.inputs.items plan.script.items fit)
 
 pub one_each : (plan : Plan) (history : History) → IsRun plan history → length history.outputs.items ≡ length history.journal.items
 one_each plan history run =

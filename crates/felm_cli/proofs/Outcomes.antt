@@ -11,21 +11,22 @@ use Rattle.felm_meaning.specs.declared.plan.Plan.{Plan}
 use Rattle.felm_cli.specs.declared.status.Status.{Status}
 use Rattle.felm_cli.specs.declared.status.Status.TheVariants.{Success, Usage, Read, Write, Memory, NotBuilt}
 use Rattle.felm_cli.specs.declared.status.Which.{Which}
-use Rattle.felm_cli.specs.Words.{Sync}
+use Rattle.felm_cli.specs.Words.{SyncOrder}
 use Rattle.felm_cli.specs.Program.{program_of}
 use Rattle.felm_cli.specs.Plans.{Planned, planned, planned_with, plan_of_texts}
 use Rattle.felm_cli.specs.Text.{plan_text}
-use Rattle.felm_cli.specs.Outcomes.{OfTexts, HasPrefix, HasPrefixIfAny, PutOutcome, TextsOutcome, SyncOutcome}
+use Rattle.felm_cli.specs.Outcomes.{OfTexts, HasResult, HasPrefix, HasPrefixIfAny, PutOutcome, TextsOutcome, SyncOutcome}
 
 -- a text that is put is that of the plan
-pub texts_planned : (found : Option Planned) (plan : Plan) (out out' : Option (List ℕ)) (faults faults' : ℕ) (status : Status)
-    → option_map planned (Some plan) ≡ found → PutOutcome (plan_text (planned plan)) out out' faults faults' status → TextsOutcome found out out' faults faults' status
-texts_planned found plan out out' faults faults' Success e put = (planned plan, sym e, put)
-texts_planned found plan out out' faults faults' Usage e put = put
-texts_planned found plan out out' faults faults' (Read which) e put = put
-texts_planned found plan out out' faults faults' Write e put = ((planned plan, sym e, put.0), put.1)
-texts_planned found plan out out' faults faults' Memory e put = subst (λ f. HasPrefixIfAny f out out') e put
-texts_planned found plan out out' faults faults' NotBuilt e put = absurd put
+pub texts_planned : (found : Option Planned) (plan : Plan) (out out' : Option (List ℕ)) (faults faults' short short' : ℕ) (status : Status)
+    → option_map planned (Some plan) ≡ found → PutOutcome (plan_text (planned plan)) out out' faults faults' short short' status
+    → TextsOutcome found out out' faults faults' short short' status
+texts_planned found plan out out' faults faults' short short' Success e put = ((planned plan, sym e, put.0), put.1)
+texts_planned found plan out out' faults faults' short short' Usage e put = put
+texts_planned found plan out out' faults faults' short short' (Read which) e put = put
+texts_planned found plan out out' faults faults' short short' Write e put = ((planned plan, sym e, put.0), put.1)
+texts_planned found plan out out' faults faults' short short' Memory e put = subst (λ f. HasPrefixIfAny f out out') e put
+texts_planned found plan out out' faults faults' short short' NotBuilt e put = absurd put
 
 nothing_put : (out : Option (List ℕ)) (text : List ℕ) → AppendsPrefix out out text
 nothing_put None text = tt
@@ -41,7 +42,7 @@ any_texts (Some a) None P h = tt
 any_texts (Some a) (Some b) P h = h a b
 
 -- want of memory before the texts are read
-pub memory_before : (bytes : List ℕ → Option (List ℕ)) (order : Sync) (out : Option (List ℕ)) → OfTexts bytes order (λ found. HasPrefixIfAny found out out)
+pub memory_before : (bytes : List ℕ → Option (List ℕ)) (order : SyncOrder) (out : Option (List ℕ)) → OfTexts bytes order (λ found. HasPrefixIfAny found out out)
 memory_before bytes order out =
     any_texts (bytes order.program) (bytes order.script) (λ a b. HasPrefixIfAny (plan_of_texts a b) out out) (λ a b. untouched (plan_of_texts a b) out)
 
@@ -92,17 +93,18 @@ found (Some a) None x y P p q t = tt
 found (Some a) (Some b) x y P p q t =
     subst P (ap (λ z. plan_of_texts z y) p ∙ ap (plan_of_texts (take 16777217 a)) q ∙ plan_cut a b) t
 
-pub sync_done : (bytes : List ℕ → Option (List ℕ)) (counts counts' : List ℕ → ℕ) (order : Sync) (x y : List ℕ) (out out' : Option (List ℕ)) (faults faults' : ℕ) (status : Status)
+pub sync_done : (bytes : List ℕ → Option (List ℕ)) (counts counts' : List ℕ → ℕ) (order : SyncOrder) (x y : List ℕ) (out out' : Option (List ℕ))
+    (faults faults' short short' : ℕ) (status : Status)
     → IfSome (bytes order.program) (λ all. x ≡ take 16777217 all) → IfSome (bytes order.script) (λ all. y ≡ take 16777217 all)
-    → TextsOutcome (plan_of_texts x y) out out' faults faults' status
-    → SyncOutcome bytes counts counts' order out out' faults faults' status
-sync_done bytes counts counts' order x y out out' faults faults' Success p q t =
-    found (bytes order.program) (bytes order.script) x y (λ f. TextsOutcome f out out' faults faults' Success) p q t
-sync_done bytes counts counts' order x y out out' faults faults' Usage p q t = t
-sync_done bytes counts counts' order x y out out' faults faults' (Read which) p q t = absurd t
-sync_done bytes counts counts' order x y out out' faults faults' Write p q t =
+    → TextsOutcome (plan_of_texts x y) out out' faults faults' short short' status
+    → SyncOutcome bytes counts counts' order out out' faults faults' short short' status
+sync_done bytes counts counts' order x y out out' faults faults' short short' Success p q t =
+    (found (bytes order.program) (bytes order.script) x y (λ f. HasResult f out out') p q t.0, t.1)
+sync_done bytes counts counts' order x y out out' faults faults' short short' Usage p q t = t
+sync_done bytes counts counts' order x y out out' faults faults' short short' (Read which) p q t = absurd t
+sync_done bytes counts counts' order x y out out' faults faults' short short' Write p q t =
     (found (bytes order.program) (bytes order.script) x y (λ f. HasPrefix f out out') p q t.0, t.1)
-sync_done bytes counts counts' order x y out out' faults faults' Memory p q t =
+sync_done bytes counts counts' order x y out out' faults faults' short short' Memory p q t =
     found (bytes order.program) (bytes order.script) x y (λ f. HasPrefixIfAny f out out') p q t
-sync_done bytes counts counts' order x y out out' faults faults' NotBuilt p q t =
+sync_done bytes counts counts' order x y out out' faults faults' short short' NotBuilt p q t =
     (found (bytes order.program) (bytes order.script) x y (λ f. f ≡ None) p q t.0, t.1)

@@ -8,7 +8,9 @@ use Rattle.std.proofs.lemmas.Option.{slice_get_within, get_or_from_slice_get}
 use Rattle.felm_term.specs.declared.event.Event.{Event}
 use Rattle.felm_term.specs.declared.message.Message.{Message}
 use Rattle.felm_term.specs.declared.input.InputDecl.{InputDecl}
-use Rattle.felm_meaning.specs.Events.{has_type, fits, all_fit}
+use Rattle.std.specs.Prelude.{nat_lt}
+use Rattle.std.proofs.lemmas.Bool.{ltb-true}
+use Rattle.felm_meaning.specs.Events.{all_of_inputs}
 use Rattle.felm_cli.specs.Text.{event_line, event_lines}
 
 -- what is left from an item on
@@ -25,18 +27,10 @@ list_all_item p xs i x all h =
           let none : list_all p xs ≡ false = list_all_at p xs i x (slice_get_within xs i x h) (ap p (get_or_from_slice_get xs i x x h) ∙ e) in cc
     ]) refl
 
-within_if : {X : Type 0} (xs : List X) (i : ℕ) (p : X → Bool) → option_map_or p (slice_get xs i) false ≡ true → i < length xs
-within_if xs i p h =
-    (elim (slice_get xs i) as (λ o. slice_get xs i ≡ o → option_map_or p o false ≡ true → i < length xs) [
-      | None ↦ λ e g. absurd cc
-      | Some x ↦ λ e g. slice_get_within xs i x e
-    ]) refl h
-
--- the source of an event that fits is an input
-pub source_within : (inputs : List InputDecl) (events : List Event) (i : ℕ) (event : Event) → all_fit inputs events ≡ true
+-- the source of an event of an input is in range
+pub source_within : (inputs : List InputDecl) (events : List Event) (i : ℕ) (event : Event) → all_of_inputs inputs events ≡ true
     → slice_get events i ≡ Some event → event.source < length inputs
-source_within inputs events i event all h =
-    within_if inputs event.source (λ input. has_type input.ty event.value) (list_all_item (fits inputs) events i event all h)
+source_within inputs events i event all h = ltb-true _ _ (list_all_item (λ e. nat_lt e.source (length inputs)) events i event all h)
 
 -- the text after the line of an event, with the lines to come
 pub lines_step : (inputs : List InputDecl) (text text' all : List ℕ) (position i : ℕ) (events : List Event) (messages : List Message)

@@ -8,7 +8,8 @@ use Rattle.felm_term.specs.declared.event.Event.{Event}
 use Rattle.felm_term.specs.declared.message.Message.{Message}
 use Rattle.felm_term.specs.declared.value.Value.{Value}
 use Rattle.felm_term.specs.declared.input.InputDecl.{InputDecl}
-use Rattle.felm_meaning.specs.Meaning.{source_message, carried, value_at, message_at, messages_after, messages_of}
+use Rattle.felm_term.specs.Values.{value_of}
+use Rattle.felm_meaning.specs.Meaning.{source_message, value_at, message_at, messages_after, messages_of}
 use Rattle.felm_meaning.specs.Meaning.{default_of}
 use Rattle.felm_meaning.specs.Journals.{plain_journal}
 use Rattle.felm_meaning.specs.declared.plan.Plan.{Plan}
@@ -38,10 +39,10 @@ message_next inputs journal node i event value message here before is =
 -- the value at the next position
 pub value_next : (inputs : List InputDecl) (journal : List Event) (node i : ℕ) (event : Event) (value after : Value) (message : Message)
     → slice_get journal i ≡ Some event → value ≡ value_at inputs journal node i → message ≡ source_message node (Some event) value
-    → after ≡ carried message → after ≡ value_at inputs journal node (i + 1)
+    → after ≡ value_of message → after ≡ value_at inputs journal node (i + 1)
 value_next inputs journal node i event value after message here before is carries =
     let next : suc i ≡ i + 1 = omega arith in
-    carries ∙ ap carried (is ∙ ap (λ o. source_message node o value) (sym here) ∙ ap (source_message node (slice_get journal i)) before)
+    carries ∙ ap value_of (is ∙ ap (λ o. source_message node o value) (sym here) ∙ ap (source_message node (slice_get journal i)) before)
     ∙ ap (value_at inputs journal node) next
 
 -- the messages up to the next position

@@ -6,10 +6,10 @@ use Rattle.felm_cli.specs.declared.status.Status.{Status}
 use Rattle.felm_cli.specs.declared.status.Status.TheVariants.{Success, Usage, Read, Write, Memory, NotBuilt}
 use Rattle.felm_cli.specs.declared.status.Which.{Which}
 use Rattle.felm_cli.specs.declared.status.Which.TheVariants.{Program, Script}
-use Rattle.felm_cli.specs.Words.{Sync}
+use Rattle.felm_cli.specs.Words.{SyncOrder}
 
 -- the file that an order names
-abbrev pub file_of : Which → Sync → List ℕ
+abbrev pub file_of : Which → SyncOrder → List ℕ
 file_of Program order = order.program
 file_of Script order = order.script
 
@@ -27,7 +27,7 @@ fault_text Memory file = codes "felm: out of memory\n"
 fault_text NotBuilt file = codes "felm: this form is not built yet\n"
 
 -- the file that the line of a status names, if it names one
-abbrev pub file_named : Option Sync → Status → List ℕ
+abbrev pub file_named : Option SyncOrder → Status → List ℕ
 file_named (Some order) (Read which) = file_of which order
 file_named order status = []
 

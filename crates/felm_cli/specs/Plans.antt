@@ -14,8 +14,13 @@ pub record Planned : Type 0 where
   pub main : ℕ
   pub script : List Event
 
+-- a plan as what is run
 abbrev pub planned : Plan → Planned
 planned plan = record { inputs = plan.inputs.items; main = plan.main; script = plan.script.items }
+
+-- the limit of a journal where no word names one
+abbrev pub default_journal_limit : ℕ
+default_journal_limit = 1048576
 
 -- at most 16,777,216 bytes
 abbrev pub is_short : List ℕ → Bool

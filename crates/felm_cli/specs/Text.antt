@@ -9,7 +9,7 @@ use Rattle.felm_term.specs.declared.input.InputDecl.{InputDecl}
 use Rattle.felm_term.specs.Text.{value_text, message_text}
 use Rattle.felm_meaning.specs.Meaning.{default_of, messages_of}
 use Rattle.felm_meaning.specs.Journals.{plain_journal}
-use Rattle.felm_cli.specs.Plans.{Planned}
+use Rattle.felm_cli.specs.Plans.{Planned, default_journal_limit}
 
 -- a source's text: the name of its input
 abbrev pub source_text : List InputDecl → ℕ → List ℕ
@@ -40,4 +40,4 @@ result_text inputs main journal = history_text inputs (default_of inputs main) j
 
 -- the result text of a plan: that of its journal on one thread, which the default limit of a journal bounds
 abbrev pub plan_text : Planned → List ℕ
-plan_text plan = result_text plan.inputs plan.main (plain_journal plan.script 1048576)
+plan_text plan = result_text plan.inputs plan.main (plain_journal plan.script default_journal_limit)

@@ -1,11 +1,11 @@
 -- What contracts see of the values that this crate passes on.
 use Rattle.std.specs.Prelude.{ℕ, List, Option}
-use Rattle.felm_cli.specs.declared.words.Sync.{Sync as SyncWords}
+use Rattle.felm_cli.specs.declared.words.SyncOrder.{SyncOrder as SyncWords}
 use Rattle.felm_cli.specs.declared.program.ReadProgram.{ReadProgram}
-use Rattle.felm_cli.specs.Words.{Sync}
+use Rattle.felm_cli.specs.Words.{SyncOrder}
 use Rattle.felm_cli.specs.Program.{Program}
 
-abbrev pub sync_of : SyncWords → Sync
+abbrev pub sync_of : SyncWords → SyncOrder
 sync_of words = record { program = words.program.now; script = words.script.now }
 
 abbrev pub program_in : ReadProgram → Program

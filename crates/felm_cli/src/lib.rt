@@ -4,10 +4,10 @@
 mod declaration;
 mod fault;
 mod fields;
-mod in_memory;
 mod laws;
 mod names;
 mod once;
+mod over_sure;
 mod plans;
 mod printing;
 mod program;
@@ -17,9 +17,9 @@ mod status;
 mod words;
 
 pub use fault::put_fault;
-pub use in_memory::felm_in_memory;
 pub use laws::{planned_journal_is_complete, planned_journal_is_the_script};
 pub use once::felm_once;
+pub use over_sure::felm_over_sure;
 pub use status::{Status, Which};
 
 #[cfg(test)]

@@ -1,13 +1,13 @@
 //! The top call that waits for nobody.
-ghost use Rattle.std.specs.Prelude.{◌≡◌, ◌↔◌, map, string_bytes, IfSome, IfOk, Some, None};
+ghost use Rattle.std.specs.Prelude.{◌≡◌, ◌≤◌, ◌↔◌, ℕ, List, map, string_bytes, IfSome, IfOk, Some, None};
 ghost use Rattle.std.specs.Io.KnownBytes.{Keeps};
 ghost use Rattle.felm_io.specs.Causes.{Rose};
 ghost use Rattle.felm_cli.specs.declared.status.Which.{Which};
 ghost use Rattle.felm_cli.specs.Words.{order_of};
 ghost use Rattle.felm_cli.specs.Fault.{fault_text, file_of, file_named, FaultPut};
-ghost use Rattle.felm_cli.specs.Plans.{planned, plan_of_texts};
+ghost use Rattle.felm_cli.specs.Plans.{planned, plan_of_texts, default_journal_limit};
 ghost use Rattle.felm_cli.specs.Text.{plan_text};
-ghost use Rattle.felm_cli.specs.Outcomes.{OfOrder, HasResult, HasPrefix, HasPrefixIfAny, PutOutcome, TextsOutcome, SyncOutcome, IsQuiet};
+ghost use Rattle.felm_cli.specs.Outcomes.{OfOrder, HasResult, HasPrefix, HasPrefixIfAny, CountsStay, OnQuiet, PutOutcome, TextsOutcome, SyncOutcome, WordsOutcome};
 ghost use Rattle.felm_cli.specs.Views.{sync_of};
 
 use crate::fault::tell;
@@ -15,7 +15,7 @@ use crate::plans::{LONGEST, read_plan};
 use crate::printing::result_text;
 use crate::running::run;
 use crate::status::{Status, Which};
-use crate::words::{Sync, read_words};
+use crate::words::{SyncOrder, read_words};
 use felm_io::{Files, LoadFail, Sink, SinkFail, put_all};
 use felm_meaning::Plan;
 use felm_term::Memory;
@@ -23,8 +23,8 @@ use std::alloc::Global;
 
 /// Does the command that the words give: `sync PROGRAM SCRIPT`.
 ///
-/// The result goes to `out`, and nothing is put there before the run has ended. A status other than
-/// success has its line on `err`; a refused put there changes no status.
+/// Nothing is put to `out` before the run has ended. A status other than success has its line on
+/// `err`, and that a put there is refused changes no status.
 pub fn felm_once<F: Files, S: Sink, E: Sink>(
     alloc: Global,
     words: &[String],
@@ -32,28 +32,37 @@ pub fn felm_once<F: Files, S: Sink, E: Sink>(
     out: &mut S,
     err: &mut E,
 ) -> Status
+    // All that a status says, by cases. The clauses below tell it status by status.
+    ensures outcome { WordsOutcome (F.bytes files.old) (F.faults files.old) (F.faults files.new) (order_of (map string_bytes words.now))
+        (S.bytes out.old) (S.bytes out.new) (S.faults out.old) (S.faults out.new) (S.short out.old) (S.short out.new) result }
+
     // The words are refused exactly where they give no order.
     ensures usage { (result ≡ Status.Usage) ↔ (order_of (map string_bytes words.now) ≡ None) }
-    // Success has appended the result text of the plan of the two texts, and nothing else.
+    // Success has appended the result text of the plan of the two texts, and no put of it was refused.
     ensures success { result ≡ Status.Success → OfOrder (F.bytes files.old) (order_of (map string_bytes words.now))
-        (λ plan. HasResult plan (S.bytes out.old) (S.bytes out.new)) }
-    // A text can't be read only where a load of the file that the order names failed in this call.
+        (λ found. HasResult found (S.bytes out.old) (S.bytes out.new)) }
+    ensures unrefused { result ≡ Status.Success → CountsStay (S.faults out.old) (S.faults out.new) (S.short out.old) (S.short out.new) }
+    // Read comes only where a load of the file that the order names failed in this call.
     ensures read { (which : Which) → result ≡ Status.Read which → IfSome (order_of (map string_bytes words.now))
         (λ order. Rose (F.faults files.old (file_of which order)) (F.faults files.new (file_of which order))) }
-    // A form is not built exactly where the two texts make no plan.
-    ensures not_built { result ≡ Status.NotBuilt → OfOrder (F.bytes files.old) (order_of (map string_bytes words.now)) (λ plan. plan ≡ None) }
-    // The result can't be written only where a put of it failed in this call, and then a prefix of it is there.
+    // A form that isn't built: the two texts make no plan. Where they make none, nothing else but Read and Memory comes.
+    ensures not_built { result ≡ Status.NotBuilt → OfOrder (F.bytes files.old) (order_of (map string_bytes words.now)) (λ found. found ≡ None) }
+    // Write comes only where a put of the result failed in this call, and a prefix of it is there.
     ensures write { result ≡ Status.Write → Rose (S.faults out.old) (S.faults out.new) }
     ensures written { result ≡ Status.Write → OfOrder (F.bytes files.old) (order_of (map string_bytes words.now))
-        (λ plan. HasPrefix plan (S.bytes out.old) (S.bytes out.new)) }
+        (λ found. HasPrefix found (S.bytes out.old) (S.bytes out.new)) }
     // Want of memory leaves a prefix of the result text, and nothing where there is none.
     ensures memory { result ≡ Status.Memory → OfOrder (F.bytes files.old) (order_of (map string_bytes words.now))
-        (λ plan. HasPrefixIfAny plan (S.bytes out.old) (S.bytes out.new)) }
-    // Nothing is appended to `out` by a command that isn't run.
-    ensures quiet { IsQuiet result (Keeps (S.bytes out.old) (S.bytes out.new)) }
+        (λ found. HasPrefixIfAny found (S.bytes out.old) (S.bytes out.new)) }
+    // A command that isn't run appends nothing to `out`.
+    ensures quiet { OnQuiet result (Keeps (S.bytes out.old) (S.bytes out.new)) }
     // The line of the status is put to `err`, whole, or a prefix of it where a put was refused in this call.
     ensures fault { FaultPut (fault_text result (file_named (order_of (map string_bytes words.now)) result)) (E.bytes err.old) (E.bytes err.new)
         (E.faults err.old) (E.faults err.new) (E.short err.old) (E.short err.new) }
+
+    // The files stay as they are, and their counts never fall.
+    ensures files { (name : List ℕ) → F.bytes files.new name ≡ F.bytes files.old name }
+    ensures counts { (name : List ℕ) → F.faults files.old name ≤ F.faults files.new name }
 {
     let Some(order) = read_words(words) else {
         tell(&Status::Usage, "", err);
@@ -65,7 +74,7 @@ pub fn felm_once<F: Files, S: Sink, E: Sink>(
 }
 
 /// The file that the line of a status names, or an empty text where it names none.
-fn file_named<'a>(order: &Sync<'a>, status: &Status) -> &'a str
+fn file_named<'a>(order: &SyncOrder<'a>, status: &Status) -> &'a str
     ensures { result.now ≡ file_named (Some (sync_of order.now)) status.now }
 {
     match status {
@@ -80,9 +89,11 @@ fn file_named<'a>(order: &Sync<'a>, status: &Status) -> &'a str
 }
 
 /// Loads the two texts of an order, and runs them.
-fn sync<F: Files, S: Sink>(alloc: Global, order: Sync<'_>, files: &mut F, out: &mut S) -> Status
-    ensures { SyncOutcome (F.bytes files.old) (F.faults files.old) (F.faults files.new) (sync_of order.entry)
-        (S.bytes out.old) (S.bytes out.new) (S.faults out.old) (S.faults out.new) result }
+fn sync<F: Files, S: Sink>(alloc: Global, order: SyncOrder<'_>, files: &mut F, out: &mut S) -> Status
+    ensures outcome { SyncOutcome (F.bytes files.old) (F.faults files.old) (F.faults files.new) (sync_of order.entry)
+        (S.bytes out.old) (S.bytes out.new) (S.faults out.old) (S.faults out.new) (S.short out.old) (S.short out.new) result }
+    ensures files { (name : List ℕ) → F.bytes files.new name ≡ F.bytes files.old name }
+    ensures counts { (name : List ℕ) → F.faults files.old name ≤ F.faults files.new name }
 {
     let program = match files.load(alloc, order.program, LONGEST + 1) {
         Ok(text) => text,
@@ -104,7 +115,7 @@ fn sync<F: Files, S: Sink>(alloc: Global, order: Sync<'_>, files: &mut F, out: &
 /// Runs the text of a program on the text of a script.
 fn sync_texts<S: Sink>(alloc: Global, program: Vec<u8>, script: Vec<u8>, out: &mut S) -> Status
     ensures { TextsOutcome (plan_of_texts program.items script.items)
-        (S.bytes out.old) (S.bytes out.new) (S.faults out.old) (S.faults out.new) result }
+        (S.bytes out.old) (S.bytes out.new) (S.faults out.old) (S.faults out.new) (S.short out.old) (S.short out.new) result }
 {
     let read = read_plan(alloc, program.as_slice(), script.as_slice());
     drop(program);
@@ -118,8 +129,8 @@ fn sync_texts<S: Sink>(alloc: Global, program: Vec<u8>, script: Vec<u8>, out: &m
 
 /// Runs a plan, and puts its result text.
 fn sync_plan<S: Sink>(alloc: Global, plan: &Plan, out: &mut S) -> Status
-    requires { plan.now.limits.journal ≡ 1048576 }
-    ensures { PutOutcome (plan_text (planned plan.now)) (S.bytes out.old) (S.bytes out.new) (S.faults out.old) (S.faults out.new) result }
+    requires { plan.now.limits.journal ≡ default_journal_limit }
+    ensures { PutOutcome (plan_text (planned plan.now)) (S.bytes out.old) (S.bytes out.new) (S.faults out.old) (S.faults out.new) (S.short out.old) (S.short out.new) result }
 {
     match text_of_run(alloc, plan) {
         Ok(text) => put_result(text.as_slice(), out),
@@ -129,7 +140,7 @@ fn sync_plan<S: Sink>(alloc: Global, plan: &Plan, out: &mut S) -> Status
 
 /// The result text of the run of a plan.
 fn text_of_run(alloc: Global, plan: &Plan) -> Result<Vec<u8>, Memory>
-    requires { plan.now.limits.journal ≡ 1048576 }
+    requires { plan.now.limits.journal ≡ default_journal_limit }
     ensures { IfOk result (λ text. text.items ≡ plan_text (planned plan.now)) }
 {
     let history = run(alloc, plan)?;
@@ -138,7 +149,7 @@ fn text_of_run(alloc: Global, plan: &Plan) -> Result<Vec<u8>, Memory>
 
 /// Puts a whole text.
 fn put_result<S: Sink>(text: &[u8], out: &mut S) -> Status
-    ensures { PutOutcome text.now (S.bytes out.old) (S.bytes out.new) (S.faults out.old) (S.faults out.new) result }
+    ensures { PutOutcome text.now (S.bytes out.old) (S.bytes out.new) (S.faults out.old) (S.faults out.new) (S.short out.old) (S.short out.new) result }
 {
     match put_all(out, text) {
         Ok(()) => Status::Success,

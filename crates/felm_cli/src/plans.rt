@@ -1,7 +1,7 @@
 //! The plan of two texts.
 ghost use Rattle.std.specs.Prelude.{◌≡◌, ◌≤◌, length, IfOk, IfSome};
 ghost use Rattle.std.specs.Option.{option_map};
-ghost use Rattle.felm_cli.specs.Plans.{planned, plan_of_texts};
+ghost use Rattle.felm_cli.specs.Plans.{planned, plan_of_texts, default_journal_limit};
 ghost use Rattle.felm_cli.specs.Script.{script_of};
 ghost use Rattle.felm_term.specs.Inputs.{names_of};
 
@@ -29,7 +29,7 @@ fn script_over(alloc: Global, read: &ReadProgram, text: &[u8]) -> Result<Option<
 /// The plan of the text of a program and the text of a script, if their form is built.
 pub fn read_plan(alloc: Global, program: &[u8], script: &[u8]) -> Result<Option<Plan>, Memory>
     ensures plan { IfOk result (λ plan. option_map planned plan ≡ plan_of_texts program.now script.now) }
-    ensures limits { IfOk result (λ plan. IfSome plan (λ it. it.limits.journal ≡ 1048576)) }
+    ensures limits { IfOk result (λ plan. IfSome plan (λ it. it.limits.journal ≡ default_journal_limit)) }
 {
     if program.len() > LONGEST || script.len() > LONGEST {
         return Ok(None);

@@ -1,6 +1,6 @@
 //! The result text.
 ghost use Rattle.std.specs.Prelude.{◌≡◌, ◌++◌, length, IsTrue, IfOk, OnOk, string_bytes};
-ghost use Rattle.felm_meaning.specs.Events.{all_fit};
+ghost use Rattle.felm_meaning.specs.Events.{all_of_inputs};
 ghost use Rattle.felm_cli.specs.Text.{event_line, history_text};
 
 use felm_meaning::{History, Plan};
@@ -27,7 +27,7 @@ fn push_event(
 
 /// The result text of a history of a plan.
 pub fn result_text(alloc: Global, plan: &Plan, history: &History) -> Result<Vec<u8>, Memory>
-    requires sources { IsTrue (all_fit plan.now.inputs.items history.now.journal.items) }
+    requires sources { IsTrue (all_of_inputs plan.now.inputs.items history.now.journal.items) }
     requires one_each { length history.now.outputs.items ≡ length history.now.journal.items }
     ensures { IfOk result (λ text. text.items ≡ history_text plan.now.inputs.items
         history.now.default history.now.journal.items history.now.outputs.items) }

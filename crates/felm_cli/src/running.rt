@@ -1,6 +1,7 @@
 //! The run of a plan on one thread.
 ghost use Rattle.std.specs.Prelude.{◌≡◌, IfOk, Some};
-ghost use Rattle.felm_meaning.specs.Meaning.{default_of, source_message, carried};
+ghost use Rattle.felm_term.specs.Values.{value_of};
+ghost use Rattle.felm_meaning.specs.Meaning.{default_of, source_message};
 ghost use Rattle.felm_cli.specs.History.{IsRun};
 
 use felm_meaning::{History, Plan};
@@ -30,7 +31,7 @@ fn message_of(node: u32, event: &Event, before: &Value) -> Result<Message, Memor
 
 /// The value that a message carries.
 fn carried_value(message: &Message) -> Result<Value, Memory>
-    ensures { IfOk result (λ value. value ≡ carried message.now) }
+    ensures { IfOk result (λ value. value ≡ value_of message.now) }
 {
     match message {
         Message::Change(value) | Message::NoChange(value) => value.copy(),

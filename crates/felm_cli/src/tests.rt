@@ -1,4 +1,4 @@
-use crate::{Status, Which, felm_in_memory, felm_once};
+use crate::{Status, Which, felm_over_sure, felm_once};
 use felm_io::{MemoryFiles, MemorySink, SureFiles, SureSink};
 use std::alloc::{AllocError, Global};
 use std::test::Fail;
@@ -25,7 +25,7 @@ fn sync(alloc: Global, program: &[u8], script: &[u8]) -> Result<(Status, SureSin
     let mut out = SureSink::make(alloc);
     let mut err = SureSink::make(alloc);
     let words = words(alloc, &["sync", "p", "s"])?;
-    let status = felm_in_memory(alloc, words.as_slice(), &mut files, &mut out, &mut err);
+    let status = felm_over_sure(alloc, words.as_slice(), &mut files, &mut out, &mut err);
     Ok((status, out, err))
 }
 

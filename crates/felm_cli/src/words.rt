@@ -6,7 +6,7 @@ ghost use Rattle.felm_cli.specs.Views.{sync_of};
 
 /// `sync`: run the program of one file on the script of another.
 #[derive(Clone, Copy, Debug)]
-pub struct Sync<'a> {
+pub struct SyncOrder<'a> {
     pub program: &'a str,
     pub script: &'a str,
 }
@@ -20,18 +20,18 @@ fn is_file(word: &[u8]) -> bool
     }
 }
 
-fn order_of_three<'a>(command: &str, program: &'a str, script: &'a str) -> Option<Sync<'a>>
+fn order_of_three<'a>(command: &str, program: &'a str, script: &'a str) -> Option<SyncOrder<'a>>
     ensures { option_map sync_of result ≡ order_of_three command.now program.now script.now }
 {
     if command == "sync" && is_file(program.as_bytes()) && is_file(script.as_bytes()) {
-        Some(Sync { program, script })
+        Some(SyncOrder { program, script })
     } else {
         None
     }
 }
 
 /// The order of these words, if a command takes them.
-pub fn read_words(words: &[String]) -> Option<Sync<'_>>
+pub fn read_words(words: &[String]) -> Option<SyncOrder<'_>>
     ensures { option_map sync_of result ≡ order_of (map string_bytes words.now) }
 {
     match words {

@@ -2,11 +2,11 @@
 use Rattle.std.specs.Prelude.{◌≡◌, ℕ, suc, zero, List, [], ◌∷◌, ◌++◌, length, slice_get, Some, None, Option, IsTrue}
 use Rattle.felm_term.specs.declared.event.Event.{Event}
 use Rattle.felm_term.specs.declared.input.InputDecl.{InputDecl}
-use Rattle.felm_meaning.specs.Events.{all_fit}
+use Rattle.felm_meaning.specs.Events.{all_of_inputs}
 
 -- a legal journal: its events are of inputs, and they are the first ones of the script
 pub record IsLegal (inputs : List InputDecl) (script journal : List Event) : Type 0 where
-  pub sources : IsTrue (all_fit inputs journal)
+  pub sources : IsTrue (all_of_inputs inputs journal)
   pub scripted : (rest : List Event) × (script ≡ journal ++ rest)
 
 -- a complete journal: a legal one with every event of the script
@@ -18,6 +18,7 @@ pub record IsComplete (inputs : List InputDecl) (script journal : List Event) : 
 abbrev pub next : List Event → List Event → Option Event
 next script journal = slice_get script (length journal)
 
+-- a journal with one more event, if there is one
 abbrev pub with_event : List Event → Option Event → List Event
 with_event journal None = journal
 with_event journal (Some event) = journal ++ event ∷ []

@@ -7,14 +7,10 @@ use Rattle.felm_term.specs.declared.value.Value.{Value}
 use Rattle.felm_term.specs.declared.value.Value.TheVariants as value
 use Rattle.felm_term.specs.declared.message.Message.{Message}
 use Rattle.felm_term.specs.declared.message.Message.TheVariants.{Change, NoChange}
+use Rattle.felm_term.specs.Values.{value_of}
 use Rattle.felm_term.specs.declared.input.InputDecl.{InputDecl}
 use Rattle.felm_term.specs.declared.input.InputTy.{InputTy}
 use Rattle.felm_term.specs.declared.input.InputTy.TheVariants as type
-
--- the value that a message carries
-abbrev pub carried : Message → Value
-carried (Change value) = value
-carried (NoChange value) = value
 
 -- the value that an input declares
 abbrev pub declared_default : InputTy → InputDecl → Value
@@ -34,7 +30,7 @@ source_message node (Some event) before = if event.source == node then Change ev
 abbrev pub value_at : List InputDecl → List Event → ℕ → ℕ → Value
 value_at inputs journal node zero = default_of inputs node
 value_at inputs journal node (suc before) =
-    carried (source_message node (slice_get journal before) (value_at inputs journal node before))
+    value_of (source_message node (slice_get journal before) (value_at inputs journal node before))
 
 -- the message of a source at a position from 1 on
 abbrev pub message_at : List InputDecl → List Event → ℕ → ℕ → Message

@@ -1,4 +1,5 @@
-ghost use Rattle.std.specs.Prelude.{◌≡◌, IfOk};
+ghost use Rattle.std.specs.Prelude.{◌≡◌, IfOk, IsOk};
+ghost use Rattle.felm_term.specs.Values.{IsPlain};
 
 use crate::list::Items;
 use crate::memory::Memory;
@@ -9,6 +10,7 @@ use crate::value::Value;
 pub struct Event {
     /// The source's node number.
     pub source: u32,
+    /// What it carries, of the type of the source's values.
     pub value: Value,
 }
 
@@ -21,7 +23,8 @@ pub type Script = Items<Event>;
 impl Event {
     /// An equal event. It can't be refused where the value is no function.
     pub fn copy(&self) -> Result<Event, Memory>
-        ensures { IfOk result (λ copy. copy ≡ self.now) }
+        ensures value { IfOk result (λ copy. copy ≡ self.now) }
+        ensures plain { IsPlain self.now.value → IsOk result }
     {
         Ok(Event {
             source: self.source,

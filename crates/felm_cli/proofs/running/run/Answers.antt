@@ -15,7 +15,7 @@ loop-event-preserved c =
     let within : i < length journal = omega arith in
     let here : slice_get journal i ≡ Some event = slice_get-get_or journal i event within ∙ ap Some (sym c.event-item.is) in
     record {
-      journal = journal_next journal i c.loop-event.journal.items c.push.new.self.items event c.in_ok-copy.field-0 here c.loop-event.invariant.journal c.in_ok-copy.ensures c.in_ok-push.ensures.ok;
+      journal = journal_next journal i c.loop-event.journal.items c.push.new.self.items event c.in_ok-copy.field-0 here c.loop-event.invariant.journal c.in_ok-copy.ensures.value c.in_ok-push.ensures.ok;
       value = value_next inputs journal main i event c.loop-event.value c.in_ok-value.value c.in_ok-message.message here c.loop-event.invariant.value
           c.in_ok-message.ensures c.in_ok-value.ensures;
       outputs = outputs_next inputs journal main i c.loop-event.outputs.items c.push-in-loop-event.new.self.items c.in_ok-message.message c.loop-event.invariant.outputs
