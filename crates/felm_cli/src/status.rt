@@ -4,7 +4,9 @@ ghost use Rattle.felm_cli.specs.Status.{code_of};
 /// One of the two texts of an order.
 #[derive(Clone, Copy, Debug, PartialEq, Eq)]
 pub enum Which {
+    /// The text of the program.
     Program,
+    /// The text of the event script.
     Script,
 }
 
@@ -17,7 +19,7 @@ pub enum Status {
     Usage,
     /// A text can't be read.
     Read { which: Which },
-    /// The sink refused a part of the result.
+    /// A put of the result failed.
     Write,
     /// There was no memory.
     Memory,
