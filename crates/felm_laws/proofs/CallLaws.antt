@@ -1,5 +1,5 @@
 -- Calls as a function are calls by reduction.
-use Rattle.std.proofs.Common.{◌≡◌, ℕ, suc, zero, ◌+◌, ◌<◌, ◌≤◌, Bool, true, false, ◌&&◌, not, List, [], ◌∷◌, ◌++◌, length, Option, Some, None, refl, sym, ap, subst, ◌∙◌, arith, length-append, if◌then◌else◌, ◌⊎◌, inl, inr}
+use Rattle.std.proofs.Common.{◌≡◌, ℕ, suc, zero, ◌≤◌, Bool, true, false, ◌&&◌, List, [], ◌∷◌, length, Option, Some, None, refl, sym, ap, subst, arith, length-append, if◌then◌else◌, ◌⊎◌, inl, inr}
 use Rattle.std.specs.Option.{option_map, option_and_then}
 use Rattle.felm_term.specs.CoreType.{CoreType}
 use Rattle.felm_term.specs.CoreTerm.{CoreTerm, CoreTerms, Int, Var, Lam, App, Bin, If, Let, Input, Node, Lift, Foldp, Async, End, More}
@@ -196,7 +196,7 @@ op_leads o a b h k =
     let s : Step [] (Bin o (Int (number_in a)) (Int (number_in b))) [] (Int (apply_op o (number_in a) (number_in b))) = op in
     let left = subst (λ x. Step [] (Bin o x (Int (number_in b))) [] (Int (apply_op o (number_in a) (number_in b)))) (sym (number_is a h)) s in
     only (Bin o a b) (Int (apply_op o (number_in a) (number_in b)))
-        (subst (λ x. Step [] (Bin o a x) [] (Int (apply_op o (number_in a) (number_in b)))) (sym (number_is b k)) left)
+    (subst (λ x. Step [] (Bin o a x) [] (Int (apply_op o (number_in a) (number_in b)))) (sym (number_is b k)) left)
 
 right_leads : (o : Op) (a b : CoreTerm) → is_number a ≡ true → LeadsTo b (next_term b) → LeadsTo (Bin o a b) (option_map (Bin o a) (next_term b))
 right_leads o a b h leads =
@@ -206,7 +206,7 @@ cond_leads : (c a b : CoreTerm) → is_number c ≡ true → LeadsTo (If c a b) 
 cond_leads c a b h =
     let s : Step [] (If (Int (number_in c)) a b) [] (if is_zero (number_in c) then b else a) = cond in
     only (If c a b) (if is_zero (number_in c) then b else a)
-        (subst (λ x. Step [] (If x a b) [] (if is_zero (number_in c) then b else a)) (sym (number_is c h)) s)
+    (subst (λ x. Step [] (If x a b) [] (if is_zero (number_in c) then b else a)) (sym (number_is c h)) s)
 
 app_leads : (f a : CoreTerm) → is_function f ≡ true → LeadsTo (App f a) (Some (Let a (body_of f)))
 app_leads f a h =
@@ -236,27 +236,27 @@ mutual
   next_step : (e : CoreTerm) → LeadsTo e (next_term e)
   next_step (App f a) =
       chosen (is_function f) (Some (Let a (body_of f))) (option_map (λ g. App g a) (next_term f)) (LeadsTo (App f a))
-          (app_leads f a) (λ h. inside (λ g. App g a) f (λ g s. in_function s) (next_step f))
+      (app_leads f a) (λ h. inside (λ g. App g a) f (λ g s. in_function s) (next_step f))
   next_step (Bin o a b) =
       chosen (is_number a) (if is_number b then Some (Int (apply_op o (number_in a) (number_in b))) else option_map (Bin o a) (next_term b)) (option_map (λ c. Bin o c b) (next_term a)) (LeadsTo (Bin o a b))
-          (λ h. chosen (is_number b) (Some (Int (apply_op o (number_in a) (number_in b)))) (option_map (Bin o a) (next_term b)) (LeadsTo (Bin o a b))
-              (op_leads o a b h) (λ k. right_leads o a b h (next_step b)))
-          (λ h. inside (λ c. Bin o c b) a (λ c s. in_left s) (next_step a))
+      (λ h. chosen (is_number b) (Some (Int (apply_op o (number_in a) (number_in b)))) (option_map (Bin o a) (next_term b)) (LeadsTo (Bin o a b))
+      (op_leads o a b h) (λ k. right_leads o a b h (next_step b)))
+      (λ h. inside (λ c. Bin o c b) a (λ c s. in_left s) (next_step a))
   next_step (If c a b) =
       chosen (is_number c) (Some (if is_zero (number_in c) then b else a)) (option_map (λ d. If d a b) (next_term c)) (LeadsTo (If c a b))
-          (cond_leads c a b) (λ h. inside (λ d. If d a b) c (λ d s. in_condition s) (next_step c))
+      (cond_leads c a b) (λ h. inside (λ d. If d a b) c (λ d s. in_condition s) (next_step c))
   next_step (Let a b) =
       chosen (is_value a) (Some (substitute a b)) (option_map (λ c. Let c b) (next_term a)) (LeadsTo (Let a b))
-          (λ h. only (Let a b) (substitute a b) (letv (test_value a h))) (λ h. inside (λ c. Let c b) a (λ c s. in_bound s) (next_step a))
+      (λ h. only (Let a b) (substitute a b) (letv (test_value a h))) (λ h. inside (λ c. Let c b) a (λ c s. in_bound s) (next_step a))
   next_step (Lift f ts) =
       chosen (is_value f) (option_map (Lift f) (next_arguments ts)) (option_map (λ g. Lift g ts) (next_term f)) (LeadsTo (Lift f ts))
-          (λ h. arguments_lead f ts (test_value f h) (next_arguments_step ts)) (λ h. inside (λ g. Lift g ts) f (λ g s. in_lifted s) (next_step f))
+      (λ h. arguments_lead f ts (test_value f h) (next_arguments_step ts)) (λ h. inside (λ g. Lift g ts) f (λ g s. in_lifted s) (next_step f))
   next_step (Foldp f b s) =
       chosen (is_value f) (if is_value b then option_map (Foldp f b) (next_term s) else option_map (λ c. Foldp f c s) (next_term b)) (option_map (λ g. Foldp g b s) (next_term f)) (LeadsTo (Foldp f b s))
-          (λ h. chosen (is_value b) (option_map (Foldp f b) (next_term s)) (option_map (λ c. Foldp f c s) (next_term b)) (LeadsTo (Foldp f b s))
-              (λ k. inside (Foldp f b) s (λ t r. in_signal (test_value f h) (test_value b k) r) (next_step s))
-              (λ k. inside (λ c. Foldp f c s) b (λ c r. in_base (test_value f h) r) (next_step b)))
-          (λ h. inside (λ g. Foldp g b s) f (λ g r. in_folded r) (next_step f))
+      (λ h. chosen (is_value b) (option_map (Foldp f b) (next_term s)) (option_map (λ c. Foldp f c s) (next_term b)) (LeadsTo (Foldp f b s))
+      (λ k. inside (Foldp f b) s (λ t r. in_signal (test_value f h) (test_value b k) r) (next_step s))
+      (λ k. inside (λ c. Foldp f c s) b (λ c r. in_base (test_value f h) r) (next_step b)))
+      (λ h. inside (λ g. Foldp g b s) f (λ g r. in_folded r) (next_step f))
   next_step (Async s) = inside Async s (λ t r. in_async r) (next_step s)
   next_step term.Unit = none_leads term.Unit
   next_step (Int n) = none_leads (Int n)
@@ -269,7 +269,7 @@ mutual
   next_arguments_step End = λ us h. cc
   next_arguments_step (More t ts) =
       chosen (is_signal_term t) (option_map (More t) (next_arguments ts)) (option_map (λ u. More u ts) (next_term t)) (ArgumentsLeadTo (More t ts))
-          (λ h. rest_leads t ts (test_signal t h) (next_arguments_step ts)) (λ h. first_leads t ts (next_step t))
+      (λ h. rest_leads t ts (test_signal t h) (next_arguments_step ts)) (λ h. first_leads t ts (next_step t))
 
 -- ---- no shared signal goes away
 
@@ -334,9 +334,9 @@ within_gives : (budget : ℕ) (e v : CoreTerm) → value_within budget e ≡ Som
 within_gives zero e v h = elim (either (is_value e) e v None h) [ inl now ↦ at_once zero e v now | inr never ↦ cc ]
 within_gives (suc budget) e v h =
     elim (either (is_value e) e v (option_and_then (value_within budget) (next_term e)) h) [
-      inl now ↦ at_once (suc budget) e v now
-    | inr later ↦ (let k = then_some (value_within budget) (next_term e) v later in
-        one_more budget e k.0 v (next_step e k.0 k.1) (within_gives budget k.0 v k.2))
+      | inl now ↦ at_once (suc budget) e v now
+      | inr later ↦ (let k = then_some (value_within budget) (next_term e) v later in
+          one_more budget e k.0 v (next_step e k.0 k.1) (within_gives budget k.0 v k.2))
     ]
 
 value_at_once : (budget : ℕ) (v : CoreTerm) → IsValue v → value_within budget v ≡ Some v

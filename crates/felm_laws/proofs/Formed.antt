@@ -1,5 +1,5 @@
 -- Typed terms have well-formed types.
-use Rattle.std.proofs.Common.{◌≡◌, ℕ, ◌+◌, zero, suc, true, IsTrue, List, [], ◌∷◌, ◌++◌, length, Some, refl, sym, subst}
+use Rattle.std.proofs.Common.{◌≡◌, ℕ, zero, suc, IsTrue, List, [], ◌∷◌, ◌++◌, Some, refl, sym, subst}
 use Rattle.std.specs.Prelude.{slice_get}
 use Rattle.felm_term.specs.CoreType.{CoreType, Arrow, Signal, is_simple, is_signal, is_well_formed, is_simple_signal}
 use Rattle.felm_term.specs.CoreType as type

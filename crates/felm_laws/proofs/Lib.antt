@@ -1,11 +1,15 @@
 pub mod Layers
 pub mod Weakening
 pub mod Substituted
+pub mod ClosedTerms
 pub mod Formed
 pub mod OneNext
 pub mod StepTypes
 pub mod Progress
 pub mod SimpleTerms
+pub mod SimpleParts
 pub mod StepLaws
 pub mod CallLaws
 pub mod NeverStuck
+pub mod SharedSignals
+pub mod Budgets

@@ -1,5 +1,5 @@
 -- A typed pair never gets stuck.
-use Rattle.std.proofs.Common.{◌≡◌, ℕ, List, [], ◌⊎◌, inl, inr, refl}
+use Rattle.std.proofs.Common.{ℕ, List, [], ◌⊎◌, inl, inr, refl}
 use Rattle.felm_term.specs.CoreType.{CoreType}
 use Rattle.felm_term.specs.CoreTerm.{CoreTerm}
 use Rattle.felm_term.specs.Typing.{HasType, AreSignals, PairHasType}
@@ -25,8 +25,8 @@ module _ (inputs : List CoreType) (wi : AreSignals inputs) where
       → IsFinished B e ⊎ (IsValue e ⊎ GoesOn inputs B e u)
   pair_goes_on B e u h =
       elim (progress inputs h.0 wi (shared_signals inputs [] B h.0 wi tt h.1) B e u h.2) [
-        inl v ↦ inr (inl v)
-      | inr r ↦ elim r [ inl s ↦ inl (signal_is_finished B e s) | inr g ↦ inr (inr (goes_on B e u h g)) ]
+        | inl v ↦ inr (inl v)
+        | inr r ↦ elim r [ inl s ↦ inl (signal_is_finished B e s) | inr g ↦ inr (inr (goes_on B e u h g)) ]
       ]
 
   pub never_stuck : (n : ℕ) (B : List CoreTerm) (e f : CoreTerm) (u : CoreType) → HasType inputs [] [] e u → Steps n [] e B f

@@ -1,5 +1,5 @@
 -- A typed pair is finished, has a value, or goes on.
-use Rattle.std.proofs.Common.{◌≡◌, ◌++◌, List, [], ◌∷◌, length, true, IsTrue, ℤ, refl, sym, subst, if◌then◌else◌, ◌⊎◌, inl, inr}
+use Rattle.std.proofs.Common.{◌≡◌, ◌++◌, List, [], ◌∷◌, length, IsTrue, ℤ, refl, sym, subst, if◌then◌else◌, ◌⊎◌, inl, inr}
 use Rattle.felm_term.specs.CoreType.{CoreType, Arrow, Signal, is_simple, is_simple_signal}
 use Rattle.felm_term.specs.CoreType as type
 use Rattle.felm_term.specs.CoreTerm.{CoreTerm, CoreTerms, Int, Var, Lam, App, Bin, If, Let, Input, Node, Lift, Foldp, Async, End, More}
@@ -28,7 +28,7 @@ no_arrow p r h = cc
 
 module _ (inputs shared : List CoreType) (wi : AreSignals inputs) (ws : AreSignals shared) (B : List CoreTerm) where
   -- values by their types
-  int_value : (v : CoreTerm) → IsValue v → HasType inputs shared [] v type.Int → (n : ℤ) × (v ≡ Int n)
+  pub int_value : (v : CoreTerm) → IsValue v → HasType inputs shared [] v type.Int → (n : ℤ) × (v ≡ Int n)
   int_value term.Unit w h = cc
   int_value (Int n) w h = (n, refl)
   int_value (Var n) w h = absurd w
@@ -43,7 +43,7 @@ module _ (inputs shared : List CoreType) (wi : AreSignals inputs) (ws : AreSigna
   int_value (Foldp f b t) w h = absurd w
   int_value (Async t) w h = absurd w
 
-  arrow_value : (v : CoreTerm) (p u : CoreType) → IsValue v → HasType inputs shared [] v (Arrow p u) → (q : CoreType) × (b : CoreTerm) × (v ≡ Lam q b)
+  pub arrow_value : (v : CoreTerm) (p u : CoreType) → IsValue v → HasType inputs shared [] v (Arrow p u) → (q : CoreType) × (b : CoreTerm) × (v ≡ Lam q b)
   arrow_value term.Unit p u w h = cc
   arrow_value (Int n) p u w h = cc
   arrow_value (Var n) p u w h = absurd w
@@ -58,7 +58,7 @@ module _ (inputs shared : List CoreType) (wi : AreSignals inputs) (ws : AreSigna
   arrow_value (Foldp f b t) p u w h = absurd w
   arrow_value (Async t) p u w h = absurd w
 
-  signal_value : (v : CoreTerm) (q : CoreType) → IsValue v → HasType inputs shared [] v (Signal q) → ⊥
+  pub signal_value : (v : CoreTerm) (q : CoreType) → IsValue v → HasType inputs shared [] v (Signal q) → ⊥
   signal_value term.Unit q w h = cc
   signal_value (Int n) q w h = cc
   signal_value (Var n) q w h = w

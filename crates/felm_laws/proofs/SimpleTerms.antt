@@ -1,16 +1,15 @@
 -- Terms of a simple type: they name no signals, share nothing, and go on to a value.
-use Rattle.std.proofs.Common.{◌≡◌, ℕ, suc, zero, true, false, IsTrue, List, [], ◌∷◌, ◌++◌, Some, ◌⊎◌, inl, inr, refl, sym, subst, ◌∙◌}
-use Rattle.std.specs.Prelude.{slice_get}
+use Rattle.std.proofs.Common.{◌≡◌, ℕ, true, IsTrue, List, [], ◌∷◌, ◌⊎◌, inl, inr, refl, sym, subst, ◌∙◌}
 use Rattle.felm_term.specs.CoreType.{CoreType, Arrow, Signal, is_simple, is_well_formed, is_simple_signal}
 use Rattle.felm_term.specs.CoreType as type
 use Rattle.felm_term.specs.CoreTerm.{CoreTerm, CoreTerms, Int, Var, Lam, App, Bin, If, Let, Input, Node, Lift, Foldp, Async, End, More}
 use Rattle.felm_term.specs.CoreTerm as term
-use Rattle.felm_term.specs.Typing.{HasType, AreSignals, AreShared, IsSimplyTyped, IsFunction}
-use Rattle.felm_term.specs.Reduction.{IsValue, IsSignalTerm, Step, StepOfArguments, op, cond, app, letv, share, in_function, in_left, in_right, in_condition, in_bound, in_lifted, in_arguments, in_folded, in_base, in_signal, in_async, in_first, in_rest, Steps, none, more}
+use Rattle.felm_term.specs.Typing.{HasType, AreSignals, IsFunction}
+use Rattle.felm_term.specs.Reduction.{IsValue, Step, op, cond, app, letv, share, in_function, in_left, in_right, in_condition, in_bound, in_lifted, in_arguments, in_folded, in_base, in_signal, in_async, Steps, none, more}
 use Rattle.felm_laws.specs.TypeLaws.{AreWellFormed, AreSimple}
 use Rattle.felm_laws.specs.StepLaws.{GoesOnAlone}
 use Rattle.felm_laws.proofs.Layers.{both, left_true, no_signal, no_signal_simple, simple_function, simple_bound}
-use Rattle.felm_laws.proofs.Formed.{as_signal, signals_at, well_formed}
+use Rattle.felm_laws.proofs.Formed.{signals_at, well_formed}
 use Rattle.felm_laws.proofs.StepTypes.{signal_type, step_typed}
 use Rattle.felm_laws.proofs.OneNext.{one_next}
 use Rattle.felm_laws.proofs.Progress.{progress, Goes}
@@ -104,8 +103,8 @@ simple_steps u c h (more r s) =
 simple_progress : (e : CoreTerm) (u : CoreType) → IsTrue (is_simple u) → HasType [] [] [] e u → IsValue e ⊎ GoesOnAlone e u
 simple_progress e u c h =
     elim (progress [] [] tt tt [] e u h) [
-      inl v ↦ inl v
-    | inr r ↦ elim r [ inl s ↦ absurd (no_signal u c (signal_type [] [] tt tt [] e u s h)) | inr g ↦ inr (goes_on_alone e u c h g) ]
+      | inl v ↦ inl v
+      | inr r ↦ elim r [ inl s ↦ absurd (no_signal u c (signal_type [] [] tt tt [] e u s h)) | inr g ↦ inr (goes_on_alone e u c h g) ]
     ]
   where
     goes_on_alone : (e : CoreTerm) (u : CoreType) → IsTrue (is_simple u) → HasType [] [] [] e u → Goes [] e → GoesOnAlone e u

@@ -1,5 +1,5 @@
 -- Many steps.
-use Rattle.std.proofs.Common.{◌≡◌, ℕ, suc, zero, ◌+◌, ◌<◌, ◌≤◌, List, [], ◌∷◌, ◌++◌, ◌⊎◌, inl, inr, refl, sym, ap, subst, arith}
+use Rattle.std.proofs.Common.{◌≡◌, ℕ, suc, ◌+◌, ◌<◌, ◌≤◌, List, [], ◌∷◌, ◌++◌, inl, inr, refl, sym, subst, arith}
 use Rattle.std.proofs.lemmas.Bool.{cases_lt}
 use Rattle.std.proofs.Math.Nat.{eq-or-lt_of_le}
 use Rattle.felm_term.specs.CoreType.{CoreType}
@@ -48,16 +48,16 @@ step_after k none l = absurd (omega arith)
 step_after {B} {e} k (more {n} {C} {D} {f} {g} r s) l =
     let below : k ≤ n = omega arith in
     elim (eq-or-lt_of_le below) [
-      inl e' ↦ (C, f, subst (λ x. Steps x B e C f) (sym e') r, (D, g, s))
-    | inr l' ↦ step_after k r l'
+      | inl e' ↦ (C, f, subst (λ x. Steps x B e C f) (sym e') r, (D, g, s))
+      | inr l' ↦ step_after k r l'
     ]
 
 -- where no step follows, no more steps were possible
 pub no_more : {m n : ℕ} {B C D : List CoreTerm} {e f g : CoreTerm} → Steps m B e C f → HasNoStep C f → Steps n B e D g → n ≤ m
 no_more {m} {n} {f} r w q =
     elim (cases_lt m n) [
-      inl l ↦ (let k = step_after m q l in let h = steps_same r k.2 in absurd (w k.3.0 k.3.1 (rw (h.0, h.1) k.3.2)))
-    | inr l ↦ l
+      | inl l ↦ (let k = step_after m q l in let h = steps_same r k.2 in absurd (w k.3.0 k.3.1 (rw (h.0, h.1) k.3.2)))
+      | inr l ↦ l
     ]
 
 -- a pair comes to one end at most, by one number of steps

@@ -1,5 +1,5 @@
 -- A step keeps the type.
-use Rattle.std.proofs.Common.{◌≡◌, ℕ, ◌+◌, true, false, IsTrue, List, [], ◌∷◌, ◌++◌, length, Some, refl, sym, ap, subst, arith, append-nil, length-append, if◌then◌else◌}
+use Rattle.std.proofs.Common.{◌≡◌, ◌+◌, true, false, IsTrue, List, [], ◌∷◌, ◌++◌, length, Some, refl, sym, ap, subst, arith, append-nil, length-append, if◌then◌else◌}
 use Rattle.std.specs.Prelude.{slice_get}
 use Rattle.felm_term.specs.CoreType.{CoreType, Arrow, Signal, is_simple_signal}
 use Rattle.felm_term.specs.CoreType as type
@@ -8,7 +8,7 @@ use Rattle.felm_term.specs.CoreTerm as term
 use Rattle.felm_term.specs.Typing.{HasType, AreTakenBy, AreSignals, AreShared, PairHasType}
 use Rattle.felm_term.specs.Operators.{apply_op, is_zero}
 use Rattle.felm_term.specs.Substitution.{substitute}
-use Rattle.felm_term.specs.Reduction.{IsValue, IsSignalTerm, AreSignalTerms, Step, StepOfArguments, op, cond, app, letv, share, in_function, in_left, in_right, in_condition, in_bound, in_lifted, in_arguments, in_folded, in_base, in_signal, in_async, in_first, in_rest}
+use Rattle.felm_term.specs.Reduction.{IsSignalTerm, Step, StepOfArguments, op, cond, app, letv, share, in_function, in_left, in_right, in_condition, in_bound, in_lifted, in_arguments, in_folded, in_base, in_signal, in_async, in_first, in_rest}
 use Rattle.felm_laws.proofs.Layers.{signal_result, from_arrow, to_arrow}
 use Rattle.felm_laws.proofs.Weakening.{more_shared, more_shared_all}
 use Rattle.felm_laws.proofs.Substituted.{substitute_typed}
@@ -84,9 +84,12 @@ module _ (inputs : List CoreType) (wi : AreSignals inputs) where
     step_typed s u (app {B} {p} {a} {b}) w h =
         let from : h.0 ≡ p = from_arrow h.1.1 in
         let to : u ≡ h.1.0 = to_arrow h.1.1 in
-        same s B (Let b a) u w
-            (p, subst (λ x. HasType inputs s [] b x) from h.2, subst (λ x. HasType inputs s (p ∷ []) a x) (sym to) h.1.4,
-                λ g. rw to (signal_result p h.1.0 h.1.3 g))
+        same s B (Let b a) u w (
+          p,
+          subst (λ x. HasType inputs s [] b x) from h.2,
+          subst (λ x. HasType inputs s (p ∷ []) a x) (sym to) h.1.4,
+          λ g. rw to (signal_result p h.1.0 h.1.3 g),
+        )
     step_typed s u (letv {B} {v} {a} x) w h = same s B (substitute v a) u w (substitute_typed inputs s v a h.0 u h.1 h.2)
     step_typed s u (share {B} {s = t} {a} x) w h = one_shared s B t a h.0 u x w h.1 h.2
     step_typed s u (in_function {a} r) w h =

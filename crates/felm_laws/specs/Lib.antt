@@ -1,5 +1,10 @@
 pub mod Calls
 pub mod TypeLaws
+pub mod ContextLaws
+pub mod SubstitutionLaws
 pub mod StepLaws
+pub mod PairLaws
+pub mod OutcomeLaws
 pub mod CallLaws
 pub mod Rows
+pub mod Instances

@@ -1,5 +1,5 @@
 -- Rows worked by hand: types of terms, steps of pairs, and calls.
-use Rattle.std.specs.Prelude.{◌≡◌, ℕ, zero, suc, List, [], ◌∷◌, Option, Some, None, ℤ, pos, negsuc}
+use Rattle.std.specs.Prelude.{ℕ, zero, suc, List, [], ◌∷◌, Option, Some, None, pos, negsuc}
 use Rattle.felm_term.specs.CoreType.{CoreType, Arrow, Signal}
 use Rattle.felm_term.specs.CoreType as type
 use Rattle.felm_term.specs.CoreTerm.{CoreTerm, CoreTerms, Int, Var, Lam, App, Bin, If, Let, Input, Node, Lift, Foldp, Async, End, More}
@@ -32,6 +32,10 @@ successor = Lam int (Bin op.Add (Var 0) (number 1))
 -- \u:unit.\c:int. c + 1
 abbrev pub counter : CoreTerm
 counter = Lam type.Unit (Lam int (Bin op.Add (Var 0) (number 1)))
+
+-- \c:int.\u:unit. c + 1
+abbrev pub turned_counter : CoreTerm
+turned_counter = Lam int (Lam type.Unit (Bin op.Add (Var 1) (number 1)))
 
 -- \s:signal int. s
 abbrev pub identity : CoreTerm
@@ -76,6 +80,7 @@ typing_rows =
     ∷ (Lift (number 0) End, None)
     ∷ (Foldp counter (number 0) click, Some (Signal int))
     ∷ (Foldp counter click (number 0), None)
+    ∷ (Foldp turned_counter (number 0) click, None)
     ∷ (Foldp counter (number 0) x, None)
     ∷ (Async click, Some (Signal type.Unit))
     ∷ (Async (number 0), None)

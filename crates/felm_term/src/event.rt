@@ -1,4 +1,7 @@
+ghost use Rattle.std.specs.Prelude.{◌≡◌, IfOk};
+
 use crate::list::Items;
+use crate::memory::Memory;
 use crate::value::Value;
 
 /// A value that enters the graph at a source.
@@ -14,3 +17,15 @@ pub type Events = Items<Event>;
 
 /// Events in the order in which the outside sends them.
 pub type Script = Items<Event>;
+
+impl Event {
+    /// An equal event. It can't be refused where the value is no function.
+    pub fn copy(&self) -> Result<Event, Memory>
+        ensures { IfOk result (λ copy. copy ≡ self.now) }
+    {
+        Ok(Event {
+            source: self.source,
+            value: self.value.copy()?,
+        })
+    }
+}

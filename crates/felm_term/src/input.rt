@@ -54,6 +54,14 @@ impl Inputs {
         }
     }
 
+    /// The inputs of a list, no two of which have one name.
+    pub fn of_items(items: Items<InputDecl>) -> Self
+        requires { IsDistinct bytes_eq (names_of items.items) }
+        ensures { result ≡ items }
+    {
+        Inputs { items }
+    }
+
     /// The number of inputs.
     pub fn len(&self) -> usize
         ensures { result ≡ length self.now.items }

@@ -1,0 +1,11 @@
+pub mod Cuts
+pub mod Text
+pub mod Lines
+pub mod NameTables
+pub mod Scripts
+pub mod Results
+pub mod Runs
+pub mod PlanFits
+pub mod Prefixes
+pub mod Histories
+pub mod Outcomes

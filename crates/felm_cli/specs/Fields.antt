@@ -1,0 +1,23 @@
+-- The lines of a text, and their fields.
+use Rattle.std.specs.Prelude.{ℕ, Bool, true, false, ◌==◌, List, [], ◌∷◌, filter, map, if◌then◌else◌}
+use Rattle.std.specs.List.{slice_split, onto_first}
+
+-- the lines of a text: each ends with a line feed, and the last one may end with the text
+abbrev pub lines_of : List ℕ → List (List ℕ)
+lines_of [] = []
+lines_of (b ∷ rest) = if b == 10 then [] ∷ lines_of rest else onto_first b (lines_of rest)
+
+abbrev pub is_filled : {T : Type 0} → List T → Bool
+is_filled [] = false
+is_filled (x ∷ xs) = true
+
+abbrev pub is_space : ℕ → Bool
+is_space b = b == 32
+
+-- the fields of a line: the longest runs of bytes that are no spaces
+abbrev pub fields_of : List ℕ → List (List ℕ)
+fields_of line = filter is_filled (slice_split is_space line)
+
+-- the lines that have a field, each as its fields
+abbrev pub filled_lines_of : List ℕ → List (List (List ℕ))
+filled_lines_of text = filter is_filled (map fields_of (lines_of text))

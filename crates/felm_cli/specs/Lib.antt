@@ -1,0 +1,13 @@
+pub mod Fields
+pub mod Program
+pub mod Script
+pub mod Plans
+pub mod Text
+pub mod History
+pub mod Status
+pub mod Words
+pub mod Fault
+pub mod Outcomes
+pub mod Laws
+pub mod Views
+pub mod Parts

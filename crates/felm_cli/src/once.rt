@@ -1,0 +1,148 @@
+//! The top call that waits for nobody.
+ghost use Rattle.std.specs.Prelude.{◌≡◌, ◌↔◌, map, string_bytes, IfSome, IfOk, Some, None};
+ghost use Rattle.std.specs.Io.KnownBytes.{Keeps};
+ghost use Rattle.felm_io.specs.Causes.{Rose};
+ghost use Rattle.felm_cli.specs.declared.status.Which.{Which};
+ghost use Rattle.felm_cli.specs.Words.{order_of};
+ghost use Rattle.felm_cli.specs.Fault.{fault_text, file_of, file_named, FaultPut};
+ghost use Rattle.felm_cli.specs.Plans.{planned, plan_of_texts};
+ghost use Rattle.felm_cli.specs.Text.{plan_text};
+ghost use Rattle.felm_cli.specs.Outcomes.{OfOrder, HasResult, HasPrefix, HasPrefixIfAny, PutOutcome, TextsOutcome, SyncOutcome, IsQuiet};
+ghost use Rattle.felm_cli.specs.Views.{sync_of};
+
+use crate::fault::tell;
+use crate::plans::{LONGEST, read_plan};
+use crate::printing::result_text;
+use crate::running::run;
+use crate::status::{Status, Which};
+use crate::words::{Sync, read_words};
+use felm_io::{Files, LoadFail, Sink, SinkFail, put_all};
+use felm_meaning::Plan;
+use felm_term::Memory;
+use std::alloc::Global;
+
+/// Does the command that the words give: `sync PROGRAM SCRIPT`.
+///
+/// The result goes to `out`, and nothing is put there before the run has ended. A status other than
+/// success has its line on `err`; a refused put there changes no status.
+pub fn felm_once<F: Files, S: Sink, E: Sink>(
+    alloc: Global,
+    words: &[String],
+    files: &mut F,
+    out: &mut S,
+    err: &mut E,
+) -> Status
+    // The words are refused exactly where they give no order.
+    ensures usage { (result ≡ Status.Usage) ↔ (order_of (map string_bytes words.now) ≡ None) }
+    // Success has appended the result text of the plan of the two texts, and nothing else.
+    ensures success { result ≡ Status.Success → OfOrder (F.bytes files.old) (order_of (map string_bytes words.now))
+        (λ plan. HasResult plan (S.bytes out.old) (S.bytes out.new)) }
+    // A text can't be read only where a load of the file that the order names failed in this call.
+    ensures read { (which : Which) → result ≡ Status.Read which → IfSome (order_of (map string_bytes words.now))
+        (λ order. Rose (F.faults files.old (file_of which order)) (F.faults files.new (file_of which order))) }
+    // A form is not built exactly where the two texts make no plan.
+    ensures not_built { result ≡ Status.NotBuilt → OfOrder (F.bytes files.old) (order_of (map string_bytes words.now)) (λ plan. plan ≡ None) }
+    // The result can't be written only where a put of it failed in this call, and then a prefix of it is there.
+    ensures write { result ≡ Status.Write → Rose (S.faults out.old) (S.faults out.new) }
+    ensures written { result ≡ Status.Write → OfOrder (F.bytes files.old) (order_of (map string_bytes words.now))
+        (λ plan. HasPrefix plan (S.bytes out.old) (S.bytes out.new)) }
+    // Want of memory leaves a prefix of the result text, and nothing where there is none.
+    ensures memory { result ≡ Status.Memory → OfOrder (F.bytes files.old) (order_of (map string_bytes words.now))
+        (λ plan. HasPrefixIfAny plan (S.bytes out.old) (S.bytes out.new)) }
+    // Nothing is appended to `out` by a command that isn't run.
+    ensures quiet { IsQuiet result (Keeps (S.bytes out.old) (S.bytes out.new)) }
+    // The line of the status is put to `err`, whole, or a prefix of it where a put was refused in this call.
+    ensures fault { FaultPut (fault_text result (file_named (order_of (map string_bytes words.now)) result)) (E.bytes err.old) (E.bytes err.new)
+        (E.faults err.old) (E.faults err.new) (E.short err.old) (E.short err.new) }
+{
+    let Some(order) = read_words(words) else {
+        tell(&Status::Usage, "", err);
+        return Status::Usage;
+    };
+    let status = sync(alloc, order, files, out);
+    tell(&status, file_named(&order, &status), err);
+    status
+}
+
+/// The file that the line of a status names, or an empty text where it names none.
+fn file_named<'a>(order: &Sync<'a>, status: &Status) -> &'a str
+    ensures { result.now ≡ file_named (Some (sync_of order.now)) status.now }
+{
+    match status {
+        Status::Read {
+            which: Which::Program,
+        } => order.program,
+        Status::Read {
+            which: Which::Script,
+        } => order.script,
+        _ => "",
+    }
+}
+
+/// Loads the two texts of an order, and runs them.
+fn sync<F: Files, S: Sink>(alloc: Global, order: Sync<'_>, files: &mut F, out: &mut S) -> Status
+    ensures { SyncOutcome (F.bytes files.old) (F.faults files.old) (F.faults files.new) (sync_of order.entry)
+        (S.bytes out.old) (S.bytes out.new) (S.faults out.old) (S.faults out.new) result }
+{
+    let program = match files.load(alloc, order.program, LONGEST + 1) {
+        Ok(text) => text,
+        Err(LoadFail::Failed) => return Status::Read {
+            which: Which::Program,
+        },
+        Err(LoadFail::Memory) => return Status::Memory,
+    };
+    let script = match files.load(alloc, order.script, LONGEST + 1) {
+        Ok(text) => text,
+        Err(LoadFail::Failed) => return Status::Read {
+            which: Which::Script,
+        },
+        Err(LoadFail::Memory) => return Status::Memory,
+    };
+    sync_texts(alloc, program, script, out)
+}
+
+/// Runs the text of a program on the text of a script.
+fn sync_texts<S: Sink>(alloc: Global, program: Vec<u8>, script: Vec<u8>, out: &mut S) -> Status
+    ensures { TextsOutcome (plan_of_texts program.items script.items)
+        (S.bytes out.old) (S.bytes out.new) (S.faults out.old) (S.faults out.new) result }
+{
+    let read = read_plan(alloc, program.as_slice(), script.as_slice());
+    drop(program);
+    drop(script);
+    match read {
+        Ok(Some(plan)) => sync_plan(alloc, &plan, out),
+        Ok(None) => Status::NotBuilt,
+        Err(_) => Status::Memory,
+    }
+}
+
+/// Runs a plan, and puts its result text.
+fn sync_plan<S: Sink>(alloc: Global, plan: &Plan, out: &mut S) -> Status
+    requires { plan.now.limits.journal ≡ 1048576 }
+    ensures { PutOutcome (plan_text (planned plan.now)) (S.bytes out.old) (S.bytes out.new) (S.faults out.old) (S.faults out.new) result }
+{
+    match text_of_run(alloc, plan) {
+        Ok(text) => put_result(text.as_slice(), out),
+        Err(_) => Status::Memory,
+    }
+}
+
+/// The result text of the run of a plan.
+fn text_of_run(alloc: Global, plan: &Plan) -> Result<Vec<u8>, Memory>
+    requires { plan.now.limits.journal ≡ 1048576 }
+    ensures { IfOk result (λ text. text.items ≡ plan_text (planned plan.now)) }
+{
+    let history = run(alloc, plan)?;
+    result_text(alloc, plan, &history)
+}
+
+/// Puts a whole text.
+fn put_result<S: Sink>(text: &[u8], out: &mut S) -> Status
+    ensures { PutOutcome text.now (S.bytes out.old) (S.bytes out.new) (S.faults out.old) (S.faults out.new) result }
+{
+    match put_all(out, text) {
+        Ok(()) => Status::Success,
+        Err(SinkFail::Failed) => Status::Write,
+        Err(SinkFail::Memory) => Status::Memory,
+    }
+}

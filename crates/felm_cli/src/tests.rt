@@ -1,0 +1,208 @@
+use crate::{Status, Which, felm_in_memory, felm_once};
+use felm_io::{MemoryFiles, MemorySink, SureFiles, SureSink};
+use std::alloc::{AllocError, Global};
+use std::test::Fail;
+
+const PROGRAM: &[u8] = b"input x : int = 0\nmain = x\n";
+
+const SCRIPT: &[u8] = b"x 5\nx 5\n";
+
+const RESULT: &[u8] = b"felm-result 1\n0 default 0\n1 x 5 change 5\n2 x 5 change 5\nend 2\n";
+
+fn words(alloc: Global, texts: &[&str]) -> Result<Vec<String>, AllocError> {
+    let mut words = Vec::new(alloc);
+    for text in texts {
+        words.push(String::from_str(alloc, text)?)?;
+    }
+    Ok(words)
+}
+
+/// How `sync` of two texts ends, with what it puts to `out` and to `err`.
+fn sync(alloc: Global, program: &[u8], script: &[u8]) -> Result<(Status, SureSink, SureSink), Fail> {
+    let mut files = SureFiles::make(alloc);
+    files.add("p", program).map_err(|_| AllocError)?;
+    files.add("s", script).map_err(|_| AllocError)?;
+    let mut out = SureSink::make(alloc);
+    let mut err = SureSink::make(alloc);
+    let words = words(alloc, &["sync", "p", "s"])?;
+    let status = felm_in_memory(alloc, words.as_slice(), &mut files, &mut out, &mut err);
+    Ok((status, out, err))
+}
+
+/// Texts in memory that may fail.
+fn texts(alloc: Global) -> Result<MemoryFiles, Fail> {
+    let mut files = MemoryFiles::make(alloc);
+    files.add("p", PROGRAM).map_err(|_| AllocError)?;
+    files.add("s", SCRIPT).map_err(|_| AllocError)?;
+    Ok(files)
+}
+
+#[test]
+fn results_are_put_whole(rt: HostRuntime) -> Result<(), Fail> {
+    let cases: [(&[u8], &[u8], &[u8]); 5] = [
+        (PROGRAM, SCRIPT, RESULT),
+        (PROGRAM, b"", b"felm-result 1\n0 default 0\nend 0\n"),
+        (
+            b"input x : int = 0\ninput y : int = 7\nmain = y\n",
+            b"x 1\ny 2\nx 3\ny 2\n",
+            b"felm-result 1\n0 default 7\n1 x 1 same 7\n2 y 2 change 2\n3 x 3 same 2\n4 y 2 change 2\nend 4\n",
+        ),
+        (
+            b"\n  input   _a1 : int = -007 \n\n main =  _a1",
+            b" \n_a1  -9223372036854775808\n\n_a1 9223372036854775807",
+            b"felm-result 1\n0 default -7\n1 _a1 -9223372036854775808 change -9223372036854775808\n2 _a1 9223372036854775807 change 9223372036854775807\nend 2\n",
+        ),
+        (
+            b"input lift : int = 3\nmain = lift\n",
+            b"lift 0\n",
+            b"felm-result 1\n0 default 3\n1 lift 0 change 0\nend 1\n",
+        ),
+    ];
+    for (program, script, result) in cases {
+        let (status, out, err) = sync(rt.alloc(), program, script)?;
+        assert_eq!(rt; status, Status::Success);
+        assert_eq!(rt; out.bytes(), result);
+        assert_eq!(rt; err.bytes(), b"".as_slice());
+    }
+    Ok(())
+}
+
+#[test]
+fn other_forms_are_not_built(rt: HostRuntime) -> Result<(), Fail> {
+    let cases: [(&[u8], &[u8]); 16] = [
+        (b"", b""),
+        (b"main = x\n", b""),
+        (b"input x : int = 0\n", b""),
+        (b"input x : int = 0\nmain = y\n", b""),
+        (b"input x : int = 0\nmain = x\nmain = x\n", b""),
+        (b"input x : int = 0\nmain = x x\n", b""),
+        (b"input x : int = 0\ninput x : int = 1\nmain = x\n", b""),
+        (b"input let : int = 0\nmain = let\n", b""),
+        (b"input merge : int = 0\nmain = merge\n", b""),
+        (b"input 1x : int = 0\nmain = 1x\n", b""),
+        (b"input x : unit = ()\nmain = x\n", b""),
+        (b"input x : int = 9223372036854775808\nmain = x\n", b""),
+        (PROGRAM, b"y 1\n"),
+        (PROGRAM, b"x\n"),
+        (PROGRAM, b"x 1 2\n"),
+        (PROGRAM, b"x -9223372036854775809\n"),
+    ];
+    for (program, script) in cases {
+        let (status, out, err) = sync(rt.alloc(), program, script)?;
+        assert_eq!(rt; status, Status::NotBuilt);
+        assert_eq!(rt; out.bytes(), b"".as_slice());
+        assert_eq!(rt; err.bytes(), b"felm: this form is not built yet\n".as_slice());
+    }
+    Ok(())
+}
+
+#[test]
+fn other_words_are_refused(rt: HostRuntime) -> Result<(), Fail> {
+    let alloc = rt.alloc();
+    let cases: [&[&str]; 8] = [
+        &[],
+        &["sync"],
+        &["sync", "p"],
+        &["sync", "p", "s", "s"],
+        &["run", "p", "s"],
+        &["sync", "", "s"],
+        &["sync", "p", "-"],
+        &["sync", "--p", "s"],
+    ];
+    for case in cases {
+        let mut files = texts(alloc)?;
+        let mut out = SureSink::make(alloc);
+        let mut err = SureSink::make(alloc);
+        let words = words(alloc, case)?;
+        let status = felm_once(alloc, words.as_slice(), &mut files, &mut out, &mut err);
+        assert_eq!(rt; status, Status::Usage);
+        assert_eq!(rt; out.bytes(), b"".as_slice());
+        assert_eq!(rt;
+            err.bytes(),
+            b"felm: the words name no command of this program\n".as_slice()
+        );
+    }
+    Ok(())
+}
+
+#[test]
+fn a_load_that_fails_is_named(rt: HostRuntime) -> Result<(), Fail> {
+    let alloc = rt.alloc();
+    let cases: [(u64, Which, &[u8]); 2] = [
+        (1, Which::Program, b"felm: cannot read p\n"),
+        (2, Which::Script, b"felm: cannot read s\n"),
+    ];
+    for (load, which, line) in cases {
+        let mut files = texts(alloc)?;
+        files.fail_at(load).map_err(|_| AllocError)?;
+        let mut out = SureSink::make(alloc);
+        let mut err = SureSink::make(alloc);
+        let words = words(alloc, &["sync", "p", "s"])?;
+        let status = felm_once(alloc, words.as_slice(), &mut files, &mut out, &mut err);
+        assert_eq!(rt; status, Status::Read { which });
+        assert_eq!(rt; out.bytes(), b"".as_slice());
+        assert_eq!(rt; err.bytes(), line);
+    }
+    Ok(())
+}
+
+#[test]
+fn a_put_that_fails_leaves_a_prefix(rt: HostRuntime) -> Result<(), Fail> {
+    let alloc = rt.alloc();
+    let words = words(alloc, &["sync", "p", "s"])?;
+    // 62 bytes in pieces of ten are seven puts.
+    for put in 1..9u64 {
+        let mut files = texts(alloc)?;
+        let mut out = MemorySink::make(alloc, 10);
+        out.fail_at(put).map_err(|_| AllocError)?;
+        let mut err = SureSink::make(alloc);
+        let status = felm_once(alloc, words.as_slice(), &mut files, &mut out, &mut err);
+        let written = ((put - 1) * 10).min(62) as usize;
+        assert_eq!(rt; out.bytes(), RESULT.get(..written).ok_or("short")?);
+        if put <= 7 {
+            assert_eq!(rt; status, Status::Write);
+            assert_eq!(rt; err.bytes(), b"felm: cannot write\n".as_slice());
+        } else {
+            assert_eq!(rt; status, Status::Success);
+            assert_eq!(rt; err.bytes(), b"".as_slice());
+        }
+    }
+    Ok(())
+}
+
+#[test]
+fn a_line_that_cannot_be_put_changes_no_status(rt: HostRuntime) -> Result<(), Fail> {
+    let alloc = rt.alloc();
+    let words = words(alloc, &["sync", "p", "absent"])?;
+    for put in 1..4u64 {
+        let mut files = texts(alloc)?;
+        let mut out = SureSink::make(alloc);
+        let mut err = MemorySink::make(alloc, 4);
+        err.fail_at(put).map_err(|_| AllocError)?;
+        let status = felm_once(alloc, words.as_slice(), &mut files, &mut out, &mut err);
+        let which = Which::Script;
+        assert_eq!(rt; status, Status::Read { which });
+        let written = ((put - 1) * 4) as usize;
+        assert_eq!(rt;
+            err.bytes(),
+            b"felm: cannot read absent\n".get(..written).ok_or("short")?
+        );
+    }
+    Ok(())
+}
+
+#[test]
+fn statuses_have_their_numbers(rt: HostRuntime) {
+    let which = Which::Program;
+    let cases = [
+        (Status::Success, 0),
+        (Status::Usage, 2),
+        (Status::Read { which }, 3),
+        (Status::Write, 11),
+        (Status::Memory, 12),
+        (Status::NotBuilt, 13),
+    ];
+    for (status, code) in cases {
+        assert_eq!(rt; status.code(), code);
+    }
+}

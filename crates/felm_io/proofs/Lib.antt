@@ -1,0 +1,2 @@
+pub mod DiskFaults
+pub mod NamedTexts

@@ -1,0 +1,20 @@
+-- What the laws of this crate say.
+use Rattle.std.specs.Prelude.{◌≡◌, ℕ, ◌+◌, ◌<◌, ◌≤◌, List, length, take, slice_get, Some, IsTrue}
+use Rattle.felm_term.specs.declared.event.Event.{Event}
+use Rattle.felm_term.specs.declared.input.InputDecl.{InputDecl}
+use Rattle.felm_meaning.specs.Events.{all_fit}
+use Rattle.felm_meaning.specs.Meaning.{message_at, messages_of}
+use Rattle.felm_meaning.specs.Journals.{IsComplete, plain_journal}
+
+abbrev pub MessagesStandAtTheirPositions : Type 0
+MessagesStandAtTheirPositions =
+    (inputs : List InputDecl) (journal : List Event) (node : ℕ) → (length (messages_of inputs journal node) ≡ length journal)
+    × ((place : ℕ) → place < length journal → slice_get (messages_of inputs journal node) place ≡ Some (message_at inputs journal node (place + 1)))
+
+abbrev pub PlainJournalIsTheScript : Type 0
+PlainJournalIsTheScript = (script : List Event) (limit : ℕ) → plain_journal script limit ≡ take limit script
+
+abbrev pub PlainJournalIsComplete : Type 0
+PlainJournalIsComplete =
+    (inputs : List InputDecl) (script : List Event) (limit : ℕ) → IsTrue (all_fit inputs script) → length script ≤ limit
+    → IsComplete inputs script (plain_journal script limit)
