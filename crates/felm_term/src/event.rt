@@ -1,4 +1,5 @@
-ghost use Rattle.std.specs.Prelude.{◌≡◌, IfOk};
+ghost use Rattle.std.specs.Prelude.{◌≡◌, IfOk, IsOk};
+ghost use Rattle.felm_term.specs.Values.{IsPlain};
 
 use crate::list::Items;
 use crate::memory::Memory;
@@ -19,9 +20,10 @@ pub type Events = Items<Event>;
 pub type Script = Items<Event>;
 
 impl Event {
-    /// An equal event. It can't be refused where the value is no function.
+    /// A copy. An event without a function is always copied.
     pub fn copy(&self) -> Result<Event, Memory>
-        ensures { IfOk result (λ copy. copy ≡ self.now) }
+        ensures value { IfOk result (λ copy. copy ≡ self.now) }
+        ensures plain { IsPlain self.now.value → IsOk result }
     {
         Ok(Event {
             source: self.source,
