@@ -2,7 +2,7 @@
 use Rattle.std.proofs.Common.{◌≡◌, ◌↔◌, ℕ, suc, zero, ◌≤◌, List, [], ◌⊎◌, inl, inr, refl, sym, subst, arith}
 use Rattle.felm_term.specs.CoreType.{CoreType}
 use Rattle.felm_term.specs.CoreTerm.{CoreTerm}
-use Rattle.felm_term.specs.Typing.{HasType, IsSimplyTyped}
+use Rattle.felm_term.specs.Typing.{HasType, HasSimpleType}
 use Rattle.felm_term.specs.Reduction.{IsValue, Steps, none, more}
 use Rattle.felm_term.specs.Call.{ReachesValue}
 use Rattle.felm_laws.specs.StepLaws.{GoesOnAlone}
@@ -31,10 +31,10 @@ after n e f u r (inl w) = inl (f, n, omega arith, (w, r))
 after n e f u r (inr g) = inr (g.next, more r (g.step []))
 
 -- what comes after so many steps of a closed term of a simple type
-pub value_or_more : (n : ℕ) (e f : CoreTerm) → IsSimplyTyped e → Steps n [] e [] f → HasValueWithin n e ⊎ TakesMoreThan n e
+pub value_or_more : (n : ℕ) (e f : CoreTerm) → HasSimpleType e → Steps n [] e [] f → HasValueWithin n e ⊎ TakesMoreThan n e
 value_or_more n e f h r = after n e f h.0 r (simple_never_stick n [] [] e f h.0 h.1 h.2 r).2
 
-pub within_or_over : (budget : ℕ) (e : CoreTerm) → IsSimplyTyped e → HasValueWithin budget e ⊎ TakesMoreThan budget e
+pub within_or_over : (budget : ℕ) (e : CoreTerm) → HasSimpleType e → HasValueWithin budget e ⊎ TakesMoreThan budget e
 within_or_over zero e h = value_or_more zero e e h none
 within_or_over (suc n) e h =
     elim (within_or_over n e h) [
@@ -50,5 +50,5 @@ over_otherwise : (budget : ℕ) (e : CoreTerm) → HasValueWithin budget e ⊎ T
 over_otherwise budget e (inl w) n = absurd (n w)
 over_otherwise budget e (inr k) n = k
 
-pub over_is_exact : (budget : ℕ) (e : CoreTerm) → IsSimplyTyped e → TakesMoreThan budget e ↔ ¬ HasValueWithin budget e
+pub over_is_exact : (budget : ℕ) (e : CoreTerm) → HasSimpleType e → TakesMoreThan budget e ↔ ¬ HasValueWithin budget e
 over_is_exact budget e h = (not_within_and_over budget e, over_otherwise budget e (within_or_over budget e h))

@@ -6,7 +6,7 @@ use Rattle.felm_term.specs.CoreTerm.{CoreTerm, CoreTerms, Int, Var, Lam, App, Bi
 use Rattle.felm_term.specs.CoreTerm as term
 use Rattle.felm_term.specs.Operators.{apply_op, is_zero}
 use Rattle.felm_term.specs.Substitution.{substitute}
-use Rattle.felm_term.specs.Reduction.{IsValue, IsSignalTerm, AreSignalTerms, Step, StepOfArguments, op, cond, app, letv, share, in_function, in_left, in_right, in_condition, in_bound, in_lifted, in_arguments, in_folded, in_base, in_signal, in_async, in_first, in_rest, Steps, none, more}
+use Rattle.felm_term.specs.Reduction.{IsValue, IsSignalTerm, AreSignalTerms, Step, StepOfArguments, op, cond, app, letv, share, in_function, in_left, in_right, in_condition, in_bound, in_lift_function, in_arguments, in_foldp_function, in_base, in_signal, in_async, in_first, in_rest, Steps, none, more}
 use Rattle.felm_term.specs.Call.{applied, ReachesValue, CallGives}
 use Rattle.felm_term.specs.declared.op.Op.{Op}
 use Rattle.felm_laws.specs.Calls.{is_number, number_in, is_function, body_of, is_value, is_signal_term, are_signal_terms, next_term, next_arguments, value_within, call}
@@ -152,9 +152,9 @@ mutual
   step_next (in_right {o} {n} r) = rw (no_number r) (ap (option_map (Bin o (Int n))) (step_next r))
   step_next (in_condition {a} {b} r) = rw (no_number r) (ap (option_map (λ d. If d a b)) (step_next r))
   step_next (in_bound {b} r) = rw (no_value r) (ap (option_map (λ c. Let c b)) (step_next r))
-  step_next (in_lifted {ts} r) = rw (no_value r) (ap (option_map (λ g. Lift g ts)) (step_next r))
+  step_next (in_lift_function {ts} r) = rw (no_value r) (ap (option_map (λ g. Lift g ts)) (step_next r))
   step_next (in_arguments {f} w r) = rw (value_test f w) (ap (option_map (Lift f)) (arguments_next r))
-  step_next (in_folded {b} {s} r) = rw (no_value r) (ap (option_map (λ g. Foldp g b s)) (step_next r))
+  step_next (in_foldp_function {b} {s} r) = rw (no_value r) (ap (option_map (λ g. Foldp g b s)) (step_next r))
   step_next (in_base {f} {s} w r) = rw (value_test f w, no_value r) (ap (option_map (λ c. Foldp f c s)) (step_next r))
   step_next (in_signal {f} {b} w x r) = rw (value_test f w, value_test b x) (ap (option_map (Foldp f b)) (step_next r))
   step_next (in_async r) = ap (option_map Async) (step_next r)
@@ -250,13 +250,13 @@ mutual
       (λ h. only (Let a b) (substitute a b) (letv (test_value a h))) (λ h. inside (λ c. Let c b) a (λ c s. in_bound s) (next_step a))
   next_step (Lift f ts) =
       chosen (is_value f) (option_map (Lift f) (next_arguments ts)) (option_map (λ g. Lift g ts) (next_term f)) (LeadsTo (Lift f ts))
-      (λ h. arguments_lead f ts (test_value f h) (next_arguments_step ts)) (λ h. inside (λ g. Lift g ts) f (λ g s. in_lifted s) (next_step f))
+      (λ h. arguments_lead f ts (test_value f h) (next_arguments_step ts)) (λ h. inside (λ g. Lift g ts) f (λ g s. in_lift_function s) (next_step f))
   next_step (Foldp f b s) =
       chosen (is_value f) (if is_value b then option_map (Foldp f b) (next_term s) else option_map (λ c. Foldp f c s) (next_term b)) (option_map (λ g. Foldp g b s) (next_term f)) (LeadsTo (Foldp f b s))
       (λ h. chosen (is_value b) (option_map (Foldp f b) (next_term s)) (option_map (λ c. Foldp f c s) (next_term b)) (LeadsTo (Foldp f b s))
       (λ k. inside (Foldp f b) s (λ t r. in_signal (test_value f h) (test_value b k) r) (next_step s))
       (λ k. inside (λ c. Foldp f c s) b (λ c r. in_base (test_value f h) r) (next_step b)))
-      (λ h. inside (λ g. Foldp g b s) f (λ g r. in_folded r) (next_step f))
+      (λ h. inside (λ g. Foldp g b s) f (λ g r. in_foldp_function r) (next_step f))
   next_step (Async s) = inside Async s (λ t r. in_async r) (next_step s)
   next_step term.Unit = none_leads term.Unit
   next_step (Int n) = none_leads (Int n)
@@ -285,9 +285,9 @@ mutual
   shared_stay (in_right r) = shared_stay r
   shared_stay (in_condition r) = shared_stay r
   shared_stay (in_bound r) = shared_stay r
-  shared_stay (in_lifted r) = shared_stay r
+  shared_stay (in_lift_function r) = shared_stay r
   shared_stay (in_arguments w r) = shared_stay_there r
-  shared_stay (in_folded r) = shared_stay r
+  shared_stay (in_foldp_function r) = shared_stay r
   shared_stay (in_base w r) = shared_stay r
   shared_stay (in_signal w x r) = shared_stay r
   shared_stay (in_async r) = shared_stay r

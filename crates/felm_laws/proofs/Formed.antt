@@ -5,8 +5,8 @@ use Rattle.felm_term.specs.CoreType.{CoreType, Arrow, Signal, is_simple, is_sign
 use Rattle.felm_term.specs.CoreType as type
 use Rattle.felm_term.specs.CoreTerm.{CoreTerm, CoreTerms, Int, Var, Lam, App, Bin, If, Let, Input, Node, Lift, Foldp, Async, End, More}
 use Rattle.felm_term.specs.CoreTerm as term
-use Rattle.felm_term.specs.Typing.{HasType, AreTakenBy, AreSignals, AreShared}
-use Rattle.felm_term.specs.Inputs.{type_of, types_of}
+use Rattle.felm_term.specs.Typing.{HasType, AreTakenBy, AreSignals, SharedHaveTypes}
+use Rattle.felm_term.specs.Inputs.{values_type, signal_types}
 use Rattle.felm_term.specs.declared.input.InputTy.{InputTy}
 use Rattle.felm_term.specs.declared.input.InputTy.TheVariants as input
 use Rattle.felm_term.specs.declared.input.InputDecl.{InputDecl}
@@ -33,11 +33,11 @@ signals_at [] n u w h = cc
 signals_at (t ∷ ts) zero u w h = let e : t ≡ u = cc in subst (λ x. IsTrue (is_simple_signal x)) e w.0
 signals_at (t ∷ ts) (suc n) u w h = signals_at ts n u w.1 h
 
-values_simple : (ty : InputTy) → IsTrue (is_simple (type_of ty))
+values_simple : (ty : InputTy) → IsTrue (is_simple (values_type ty))
 values_simple input.Int = refl
 values_simple input.Unit = refl
 
-pub declared_signals : (declared : List InputDecl) → AreSignals (types_of declared)
+pub declared_signals : (declared : List InputDecl) → AreSignals (signal_types declared)
 declared_signals [] = tt
 declared_signals (d ∷ declared) = (values_simple d.ty, declared_signals declared)
 
@@ -82,7 +82,7 @@ module _ (inputs shared : List CoreType) (wi : AreSignals inputs) (ws : AreSigna
 
 -- the shared signals are signals
 pub shared_signals : (inputs before : List CoreType) (B : List CoreTerm) (after : List CoreType) → AreSignals inputs → AreSignals before
-    → AreShared inputs before B after → AreSignals after
+    → SharedHaveTypes inputs before B after → AreSignals after
 shared_signals inputs before [] after wi w h = subst AreSignals h w
 shared_signals inputs before (s ∷ B) after wi w h =
     let formed : IsTrue (is_well_formed (Signal h.0)) = well_formed inputs before wi w [] s (Signal h.0) tt h.1 in

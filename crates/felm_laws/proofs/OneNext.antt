@@ -2,7 +2,7 @@
 use Rattle.std.proofs.Common.{◌≡◌, List, refl, ap}
 use Rattle.felm_term.specs.CoreTerm.{CoreTerm, CoreTerms, Int, Var, Lam, App, Bin, If, Let, Input, Node, Lift, Foldp, Async, End, More}
 use Rattle.felm_term.specs.CoreTerm as term
-use Rattle.felm_term.specs.Reduction.{IsValue, IsSignalTerm, AreSignalTerms, Step, StepOfArguments, op, cond, app, letv, share, in_function, in_left, in_right, in_condition, in_bound, in_lifted, in_arguments, in_folded, in_base, in_signal, in_async, in_first, in_rest}
+use Rattle.felm_term.specs.Reduction.{IsValue, IsSignalTerm, AreSignalTerms, Step, StepOfArguments, op, cond, app, letv, share, in_function, in_left, in_right, in_condition, in_bound, in_lift_function, in_arguments, in_foldp_function, in_base, in_signal, in_async, in_first, in_rest}
 
 pub value_stays : {B B' : List CoreTerm} {v e : CoreTerm} → IsValue v → Step B v B' e → ⊥
 value_stays w op = w
@@ -15,9 +15,9 @@ value_stays w (in_left r) = w
 value_stays w (in_right r) = w
 value_stays w (in_condition r) = w
 value_stays w (in_bound r) = w
-value_stays w (in_lifted r) = w
+value_stays w (in_lift_function r) = w
 value_stays w (in_arguments x r) = w
-value_stays w (in_folded r) = w
+value_stays w (in_foldp_function r) = w
 value_stays w (in_base x r) = w
 value_stays w (in_signal x y r) = w
 value_stays w (in_async r) = w
@@ -34,9 +34,9 @@ mutual
   signal_stays w (in_right r) = w
   signal_stays w (in_condition r) = w
   signal_stays w (in_bound r) = w
-  signal_stays w (in_lifted r) = value_stays w.0 r
+  signal_stays w (in_lift_function r) = value_stays w.0 r
   signal_stays w (in_arguments x r) = signals_stay w.1 r
-  signal_stays w (in_folded r) = value_stays w.0 r
+  signal_stays w (in_foldp_function r) = value_stays w.0 r
   signal_stays w (in_base x r) = value_stays w.1 r
   signal_stays w (in_signal x y r) = signal_stays w.2 r
   signal_stays w (in_async r) = signal_stays w r
@@ -89,17 +89,17 @@ mutual
   one_next (in_bound r) (letv w) = absurd (value_stays w r)
   one_next (in_bound r) (share x) = absurd (signal_stays x r)
   one_next (in_bound {b = y} r) (in_bound q) = let h = one_next r q in (h.0, ap (λ x. Let x y) h.1)
-  one_next (in_lifted {ts} r) (in_lifted q) = let h = one_next r q in (h.0, ap (λ f. Lift f ts) h.1)
-  one_next (in_lifted r) (in_arguments w q) = absurd (value_stays w r)
-  one_next (in_arguments w r) (in_lifted q) = absurd (value_stays w q)
+  one_next (in_lift_function {ts} r) (in_lift_function q) = let h = one_next r q in (h.0, ap (λ f. Lift f ts) h.1)
+  one_next (in_lift_function r) (in_arguments w q) = absurd (value_stays w r)
+  one_next (in_arguments w r) (in_lift_function q) = absurd (value_stays w q)
   one_next (in_arguments {f} w r) (in_arguments x q) = let h = one_next_of r q in (h.0, ap (λ ts. Lift f ts) h.1)
-  one_next (in_folded {b} {s} r) (in_folded q) = let h = one_next r q in (h.0, ap (λ f. Foldp f b s) h.1)
-  one_next (in_folded r) (in_base w q) = absurd (value_stays w r)
-  one_next (in_folded r) (in_signal w x q) = absurd (value_stays w r)
-  one_next (in_base w r) (in_folded q) = absurd (value_stays w q)
+  one_next (in_foldp_function {b} {s} r) (in_foldp_function q) = let h = one_next r q in (h.0, ap (λ f. Foldp f b s) h.1)
+  one_next (in_foldp_function r) (in_base w q) = absurd (value_stays w r)
+  one_next (in_foldp_function r) (in_signal w x q) = absurd (value_stays w r)
+  one_next (in_base w r) (in_foldp_function q) = absurd (value_stays w q)
   one_next (in_base {f} {s} w r) (in_base x q) = let h = one_next r q in (h.0, ap (λ b. Foldp f b s) h.1)
   one_next (in_base w r) (in_signal x y q) = absurd (value_stays y r)
-  one_next (in_signal w x r) (in_folded q) = absurd (value_stays w q)
+  one_next (in_signal w x r) (in_foldp_function q) = absurd (value_stays w q)
   one_next (in_signal w x r) (in_base y q) = absurd (value_stays x q)
   one_next (in_signal {f} {b} w x r) (in_signal y z q) = let h = one_next r q in (h.0, ap (λ s. Foldp f b s) h.1)
   one_next (in_async r) (in_async q) = let h = one_next r q in (h.0, ap Async h.1)

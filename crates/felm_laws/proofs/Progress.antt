@@ -7,7 +7,7 @@ use Rattle.felm_term.specs.CoreTerm as term
 use Rattle.felm_term.specs.Typing.{HasType, AreTakenBy, AreSignals}
 use Rattle.felm_term.specs.Operators.{apply_op, is_zero}
 use Rattle.felm_term.specs.Substitution.{substitute}
-use Rattle.felm_term.specs.Reduction.{IsValue, IsSignalTerm, AreSignalTerms, Step, StepOfArguments, op, cond, app, letv, share, in_function, in_left, in_right, in_condition, in_bound, in_lifted, in_arguments, in_folded, in_base, in_signal, in_async, in_first, in_rest}
+use Rattle.felm_term.specs.Reduction.{IsValue, IsSignalTerm, AreSignalTerms, Step, StepOfArguments, op, cond, app, letv, share, in_function, in_left, in_right, in_condition, in_bound, in_lift_function, in_arguments, in_foldp_function, in_base, in_signal, in_async, in_first, in_rest}
 use Rattle.felm_laws.proofs.Layers.{no_signal}
 use Rattle.felm_laws.proofs.Formed.{folded_simple}
 use Rattle.felm_laws.proofs.StepTypes.{signal_type}
@@ -105,7 +105,7 @@ module _ (inputs shared : List CoreType) (wi : AreSignals inputs) (ws : AreSigna
   at_lift f ts p w h (inl x) (inl y) = inr (inl (x, y))
   at_lift f ts p w h (inl x) (inr g) = inr (inr (g.0, Lift f g.1, in_arguments x g.2))
   at_lift f ts p w h (inr (inl x)) q = absurd (no_signal p w (signal_type inputs shared wi ws [] f p x h))
-  at_lift f ts p w h (inr (inr g)) q = inr (inr (g.0, Lift g.1 ts, in_lifted g.2))
+  at_lift f ts p w h (inr (inr g)) q = inr (inr (g.0, Lift g.1 ts, in_lift_function g.2))
 
   at_foldp : (f b t : CoreTerm) (p r : CoreType) → IsTrue (is_simple r) → HasType inputs shared [] f (Arrow p (Arrow r r)) → HasType inputs shared [] b r → HasType inputs shared [] t (Signal p) → State f → State b → State t → State (Foldp f b t)
   at_foldp f b t p r w hf hb ht (inl x) (inl y) (inl z) = absurd (signal_value t p z ht)
@@ -114,7 +114,7 @@ module _ (inputs shared : List CoreType) (wi : AreSignals inputs) (ws : AreSigna
   at_foldp f b t p r w hf hb ht (inl x) (inr (inl y)) q = absurd (no_signal r w (signal_type inputs shared wi ws [] b r y hb))
   at_foldp f b t p r w hf hb ht (inl x) (inr (inr g)) q = inr (inr (g.0, Foldp f g.1 t, in_base x g.2))
   at_foldp f b t p r w hf hb ht (inr (inl x)) q o = absurd (no_arrow p (Arrow r r) (signal_type inputs shared wi ws [] f (Arrow p (Arrow r r)) x hf))
-  at_foldp f b t p r w hf hb ht (inr (inr g)) q o = inr (inr (g.0, Foldp g.1 b t, in_folded g.2))
+  at_foldp f b t p r w hf hb ht (inr (inr g)) q o = inr (inr (g.0, Foldp g.1 b t, in_foldp_function g.2))
 
   at_async : (t : CoreTerm) (p : CoreType) → HasType inputs shared [] t (Signal p) → State t → State (Async t)
   at_async t p h (inl x) = absurd (signal_value t p x h)

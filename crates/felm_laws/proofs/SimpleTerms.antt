@@ -5,7 +5,7 @@ use Rattle.felm_term.specs.CoreType as type
 use Rattle.felm_term.specs.CoreTerm.{CoreTerm, CoreTerms, Int, Var, Lam, App, Bin, If, Let, Input, Node, Lift, Foldp, Async, End, More}
 use Rattle.felm_term.specs.CoreTerm as term
 use Rattle.felm_term.specs.Typing.{HasType, AreSignals, IsFunction}
-use Rattle.felm_term.specs.Reduction.{IsValue, Step, op, cond, app, letv, share, in_function, in_left, in_right, in_condition, in_bound, in_lifted, in_arguments, in_folded, in_base, in_signal, in_async, Steps, none, more}
+use Rattle.felm_term.specs.Reduction.{IsValue, Step, op, cond, app, letv, share, in_function, in_left, in_right, in_condition, in_bound, in_lift_function, in_arguments, in_foldp_function, in_base, in_signal, in_async, Steps, none, more}
 use Rattle.felm_laws.specs.TypeLaws.{AreWellFormed, AreSimple}
 use Rattle.felm_laws.specs.StepLaws.{GoesOnAlone}
 use Rattle.felm_laws.proofs.Layers.{both, left_true, no_signal, no_signal_simple, simple_function, simple_bound}
@@ -78,9 +78,9 @@ simple_step u c h (in_left r) = let k = simple_step type.Int refl h.1 r in (k.0,
 simple_step u c h (in_right r) = let k = simple_step type.Int refl h.2 r in (k.0, λ D. in_right (k.1 D))
 simple_step u c h (in_condition r) = let k = simple_step type.Int refl h.0 r in (k.0, λ D. in_condition (k.1 D))
 simple_step u c h (in_bound {a} {b} r) = let k = simple_step h.0 (bound_part a b u c h) h.1 r in (k.0, λ D. in_bound (k.1 D))
-simple_step u c h (in_lifted r) = absurd (no_signal_simple u h.1 c h.2)
+simple_step u c h (in_lift_function r) = absurd (no_signal_simple u h.1 c h.2)
 simple_step u c h (in_arguments w r) = absurd (no_signal_simple u h.1 c h.2)
-simple_step u c h (in_folded r) = absurd (no_signal_simple u h.1 c h.2)
+simple_step u c h (in_foldp_function r) = absurd (no_signal_simple u h.1 c h.2)
 simple_step u c h (in_base w r) = absurd (no_signal_simple u h.1 c h.2)
 simple_step u c h (in_signal w x r) = absurd (no_signal_simple u h.1 c h.2)
 simple_step u c h (in_async r) = absurd (no_signal_simple u h.0 c h.1)

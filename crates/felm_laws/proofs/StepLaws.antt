@@ -5,7 +5,7 @@ use Rattle.std.proofs.Math.Nat.{eq-or-lt_of_le}
 use Rattle.felm_term.specs.CoreType.{CoreType}
 use Rattle.felm_term.specs.CoreTerm.{CoreTerm}
 use Rattle.felm_term.specs.Typing.{AreSignals, PairHasType}
-use Rattle.felm_term.specs.Reduction.{IsValue, IsSignalTerm, AreAllSignalTerms, HasNoStep, IsFinished, Step, StepOfArguments, op, cond, app, letv, share, in_function, in_left, in_right, in_condition, in_bound, in_lifted, in_arguments, in_folded, in_base, in_signal, in_async, in_first, in_rest, Steps, none, more}
+use Rattle.felm_term.specs.Reduction.{IsValue, IsSignalTerm, AreSharedSignals, HasNoStep, IsFinished, Step, StepOfArguments, op, cond, app, letv, share, in_function, in_left, in_right, in_condition, in_bound, in_lift_function, in_arguments, in_foldp_function, in_base, in_signal, in_async, in_first, in_rest, Steps, none, more}
 use Rattle.felm_laws.proofs.OneNext.{value_stays, signal_stays, one_next}
 use Rattle.felm_laws.proofs.StepTypes.{pair_typed}
 
@@ -79,12 +79,12 @@ steps_typed inputs wi u (more r s) h = pair_typed inputs wi u s (steps_typed inp
 
 -- ---- the shared signals are signal terms
 
-signals_push : (B : List CoreTerm) (s : CoreTerm) → AreAllSignalTerms B → IsSignalTerm s → AreAllSignalTerms (B ++ s ∷ [])
+signals_push : (B : List CoreTerm) (s : CoreTerm) → AreSharedSignals B → IsSignalTerm s → AreSharedSignals (B ++ s ∷ [])
 signals_push [] s h k = (k, tt)
 signals_push (b ∷ B) s h k = (h.0, signals_push B s h.1 k)
 
 mutual
-  pub step_signals : {B C : List CoreTerm} {e f : CoreTerm} → Step B e C f → AreAllSignalTerms B → AreAllSignalTerms C
+  pub step_signals : {B C : List CoreTerm} {e f : CoreTerm} → Step B e C f → AreSharedSignals B → AreSharedSignals C
   step_signals op h = h
   step_signals cond h = h
   step_signals app h = h
@@ -95,17 +95,17 @@ mutual
   step_signals (in_right r) h = step_signals r h
   step_signals (in_condition r) h = step_signals r h
   step_signals (in_bound r) h = step_signals r h
-  step_signals (in_lifted r) h = step_signals r h
+  step_signals (in_lift_function r) h = step_signals r h
   step_signals (in_arguments w r) h = arguments_signals r h
-  step_signals (in_folded r) h = step_signals r h
+  step_signals (in_foldp_function r) h = step_signals r h
   step_signals (in_base w r) h = step_signals r h
   step_signals (in_signal w x r) h = step_signals r h
   step_signals (in_async r) h = step_signals r h
 
-  arguments_signals : {B C : List CoreTerm} {ts us : _} → StepOfArguments B ts C us → AreAllSignalTerms B → AreAllSignalTerms C
+  arguments_signals : {B C : List CoreTerm} {ts us : _} → StepOfArguments B ts C us → AreSharedSignals B → AreSharedSignals C
   arguments_signals (in_first r) h = step_signals r h
   arguments_signals (in_rest w r) h = arguments_signals r h
 
-pub steps_signals : {n : ℕ} {B C : List CoreTerm} {e f : CoreTerm} → Steps n B e C f → AreAllSignalTerms B → AreAllSignalTerms C
+pub steps_signals : {n : ℕ} {B C : List CoreTerm} {e f : CoreTerm} → Steps n B e C f → AreSharedSignals B → AreSharedSignals C
 steps_signals none h = h
 steps_signals (more r s) h = step_signals s (steps_signals r h)

@@ -5,10 +5,10 @@ use Rattle.felm_term.specs.CoreType.{CoreType, Arrow, Signal, is_simple_signal}
 use Rattle.felm_term.specs.CoreType as type
 use Rattle.felm_term.specs.CoreTerm.{CoreTerm, CoreTerms, Int, Var, Lam, App, Bin, If, Let, Input, Node, Lift, Foldp, Async, End, More, count}
 use Rattle.felm_term.specs.CoreTerm as term
-use Rattle.felm_term.specs.Typing.{HasType, AreTakenBy, AreSignals, AreShared, PairHasType}
+use Rattle.felm_term.specs.Typing.{HasType, AreTakenBy, AreSignals, SharedHaveTypes, PairHasType}
 use Rattle.felm_term.specs.Operators.{apply_op, is_zero}
 use Rattle.felm_term.specs.Substitution.{substitute}
-use Rattle.felm_term.specs.Reduction.{IsSignalTerm, Step, StepOfArguments, op, cond, app, letv, share, in_function, in_left, in_right, in_condition, in_bound, in_lifted, in_arguments, in_folded, in_base, in_signal, in_async, in_first, in_rest}
+use Rattle.felm_term.specs.Reduction.{IsSignalTerm, Step, StepOfArguments, op, cond, app, letv, share, in_function, in_left, in_right, in_condition, in_bound, in_lift_function, in_arguments, in_foldp_function, in_base, in_signal, in_async, in_first, in_rest}
 use Rattle.felm_laws.proofs.Layers.{signal_result, from_arrow, to_arrow}
 use Rattle.felm_laws.proofs.Weakening.{more_shared, more_shared_all}
 use Rattle.felm_laws.proofs.Substituted.{substitute_typed}
@@ -38,17 +38,17 @@ slice_get-seam : (ts : List CoreType) (t : CoreType) → slice_get (ts ++ t ∷ 
 slice_get-seam [] t = refl
 slice_get-seam (s ∷ ts) t = slice_get-seam ts t
 
-pub shared_length : (inputs before : List CoreType) (B : List CoreTerm) (after : List CoreType) → AreShared inputs before B after → length after ≡ length before + length B
+pub shared_length : (inputs before : List CoreType) (B : List CoreTerm) (after : List CoreType) → SharedHaveTypes inputs before B after → length after ≡ length before + length B
 shared_length inputs before [] after h = let e = ap length h in omega arith
 shared_length inputs before (s ∷ B) after h =
     omega (arith, shared_length inputs (before ++ Signal h.0 ∷ []) B after h.2, length-append before (Signal h.0 ∷ []))
 
-pub AreShared-push : (inputs before : List CoreType) (B : List CoreTerm) (after : List CoreType) (s : CoreTerm) (t : CoreType) → AreShared inputs before B after
-    → HasType inputs after [] s (Signal t) → AreShared inputs before (B ++ s ∷ []) (after ++ Signal t ∷ [])
-AreShared-push inputs before [] after s t h k =
+pub SharedHaveTypes-push : (inputs before : List CoreType) (B : List CoreTerm) (after : List CoreType) (s : CoreTerm) (t : CoreType) → SharedHaveTypes inputs before B after
+    → HasType inputs after [] s (Signal t) → SharedHaveTypes inputs before (B ++ s ∷ []) (after ++ Signal t ∷ [])
+SharedHaveTypes-push inputs before [] after s t h k =
     (t, subst (λ x. HasType inputs x [] s (Signal t)) (sym h) k, ap (λ x. x ++ Signal t ∷ []) h)
-AreShared-push inputs before (b ∷ B) after s t h k =
-    (h.0, h.1, AreShared-push inputs (before ++ Signal h.0 ∷ []) B after s t h.2 k)
+SharedHaveTypes-push inputs before (b ∷ B) after s t h k =
+    (h.0, h.1, SharedHaveTypes-push inputs (before ++ Signal h.0 ∷ []) B after s t h.2 k)
 
 count_stays : {B C : List CoreTerm} {ts us : CoreTerms} → StepOfArguments B ts C us → count ts ≡ count us
 count_stays (in_first r) = refl
@@ -56,14 +56,14 @@ count_stays (in_rest x r) = ap (λ n. n + 1) (count_stays r)
 
 -- the types of the shared signals go on at the end
 abbrev pub Keeps : List CoreType → List CoreType → List CoreTerm → CoreTerm → CoreType → Type 0
-Keeps inputs shared C e u = (later : List CoreType) × AreShared inputs [] C (shared ++ later) × HasType inputs (shared ++ later) [] e u
+Keeps inputs shared C e u = (later : List CoreType) × SharedHaveTypes inputs [] C (shared ++ later) × HasType inputs (shared ++ later) [] e u
 
 module _ (inputs : List CoreType) (wi : AreSignals inputs) where
-  same : (shared : List CoreType) (B : List CoreTerm) (e : CoreTerm) (u : CoreType) → AreShared inputs [] B shared → HasType inputs shared [] e u
+  same : (shared : List CoreType) (B : List CoreTerm) (e : CoreTerm) (u : CoreType) → SharedHaveTypes inputs [] B shared → HasType inputs shared [] e u
       → Keeps inputs shared B e u
-  same shared B e u w h = ([], subst (λ x. AreShared inputs [] B x) (sym (append-nil shared)) w, more_shared inputs shared [] [] e u h)
+  same shared B e u w h = ([], subst (λ x. SharedHaveTypes inputs [] B x) (sym (append-nil shared)) w, more_shared inputs shared [] [] e u h)
 
-  one_shared : (shared : List CoreType) (B : List CoreTerm) (s a : CoreTerm) (p u : CoreType) → IsSignalTerm s → AreShared inputs [] B shared
+  one_shared : (shared : List CoreType) (B : List CoreTerm) (s a : CoreTerm) (p u : CoreType) → IsSignalTerm s → SharedHaveTypes inputs [] B shared
       → HasType inputs shared [] s p → HasType inputs shared (p ∷ []) a u → Keeps inputs shared (B ++ s ∷ []) (substitute (Node (length B)) a) u
   one_shared shared B s a p u x w hs ha =
       let ws = shared_signals inputs [] B shared wi tt w in
@@ -73,10 +73,10 @@ module _ (inputs : List CoreType) (wi : AreSignals inputs) where
       let last : length B ≡ length shared = omega (arith, shared_length inputs [] B shared w) in
       let at : slice_get (shared ++ Signal t ∷ []) (length B) ≡ Some (Signal t) = rw last (slice_get-seam shared (Signal t)) in
       let body = subst (λ q. HasType inputs (shared ++ Signal t ∷ []) (q ∷ []) a u) of.1 (more_shared inputs shared (Signal t ∷ []) (p ∷ []) a u ha) in
-      (Signal t ∷ [], AreShared-push inputs [] B shared s t w k, substitute_typed inputs (shared ++ Signal t ∷ []) (Node (length B)) a (Signal t) u at body)
+      (Signal t ∷ [], SharedHaveTypes-push inputs [] B shared s t w k, substitute_typed inputs (shared ++ Signal t ∷ []) (Node (length B)) a (Signal t) u at body)
 
   mutual
-    pub step_typed : {B C : List CoreTerm} {e f : CoreTerm} (shared : List CoreType) (u : CoreType) → Step B e C f → AreShared inputs [] B shared
+    pub step_typed : {B C : List CoreTerm} {e f : CoreTerm} (shared : List CoreType) (u : CoreType) → Step B e C f → SharedHaveTypes inputs [] B shared
         → HasType inputs shared [] e u → Keeps inputs shared C f u
     step_typed s u (op {B} {o} {m} {n}) w h = same s B (Int (apply_op o m n)) u w h.0
     step_typed s u (cond {B} {n} {a} {b}) w h =
@@ -102,13 +102,13 @@ module _ (inputs : List CoreType) (wi : AreSignals inputs) where
         let k = step_typed s type.Int r w h.0 in (k.0, k.1, (k.2, more_shared inputs s k.0 [] a u h.1, more_shared inputs s k.0 [] b u h.2))
     step_typed s u (in_bound {b} r) w h =
         let k = step_typed s h.0 r w h.1 in (k.0, k.1, (h.0, k.2, more_shared inputs s k.0 (h.0 ∷ []) b u h.2, h.3))
-    step_typed s u (in_lifted {ts} r) w h =
+    step_typed s u (in_lift_function {ts} r) w h =
         let k = step_typed s h.0 r w h.4 in
         (k.0, k.1, (h.0, h.1, h.2, h.3, k.2, more_shared_all inputs s k.0 [] h.0 ts h.1 h.5, h.6, h.7))
     step_typed s u (in_arguments {f} x r) w h =
         let k = step_of_arguments_typed s h.0 h.1 r w h.5 in
         (k.0, k.1, (h.0, h.1, h.2, h.3, more_shared inputs s k.0 [] f h.0 h.4, k.2, rw (sym (count_stays r)) h.6, rw (sym (count_stays r)) h.7))
-    step_typed s u (in_folded {b} {s = t} r) w h =
+    step_typed s u (in_foldp_function {b} {s = t} r) w h =
         let k = step_typed s (Arrow h.0 (Arrow h.1 h.1)) r w h.4 in
         (k.0, k.1, (h.0, h.1, h.2, h.3, k.2, more_shared inputs s k.0 [] b h.1 h.5, more_shared inputs s k.0 [] t (Signal h.0) h.6))
     step_typed s u (in_base {f} {s = t} x r) w h =
@@ -121,8 +121,8 @@ module _ (inputs : List CoreType) (wi : AreSignals inputs) where
         let k = step_typed s (Signal h.0) r w h.3 in (k.0, k.1, (h.0, h.1, h.2, k.2))
 
     pub step_of_arguments_typed : {B C : List CoreTerm} {ts us : CoreTerms} (shared : List CoreType) (p r : CoreType) → StepOfArguments B ts C us
-        → AreShared inputs [] B shared → AreTakenBy inputs shared [] p ts r
-        → (later : List CoreType) × AreShared inputs [] C (shared ++ later) × AreTakenBy inputs (shared ++ later) [] p us r
+        → SharedHaveTypes inputs [] B shared → AreTakenBy inputs shared [] p ts r
+        → (later : List CoreType) × SharedHaveTypes inputs [] C (shared ++ later) × AreTakenBy inputs (shared ++ later) [] p us r
     step_of_arguments_typed s p r (in_first {ts} n) w h =
         let k = step_typed s (Signal h.0) n w h.3 in
         (k.0, k.1, (h.0, h.1, h.2, k.2, more_shared_all inputs s k.0 [] h.1 ts r h.4))

@@ -2,7 +2,7 @@
 use Rattle.std.specs.Prelude.{◌≡◌, ◌⊎◌, ◌↔◌, ℕ, suc, ◌≤◌, List, []}
 use Rattle.felm_term.specs.CoreType.{CoreType}
 use Rattle.felm_term.specs.CoreTerm.{CoreTerm}
-use Rattle.felm_term.specs.Typing.{HasType, IsSimplyTyped}
+use Rattle.felm_term.specs.Typing.{HasType, HasSimpleType}
 use Rattle.felm_term.specs.Reduction.{Steps, HasNoStep}
 use Rattle.felm_term.specs.Call.{ReachesValue}
 
@@ -36,8 +36,8 @@ TakesMoreThan budget e = (f : CoreTerm) × Steps (suc budget) [] e [] f
 
 -- a closed term of a simple type has a value within a budget, or takes more steps
 abbrev pub BudgetsDecide : Type 0
-BudgetsDecide = (budget : ℕ) (e : CoreTerm) → IsSimplyTyped e → HasValueWithin budget e ⊎ TakesMoreThan budget e
+BudgetsDecide = (budget : ℕ) (e : CoreTerm) → HasSimpleType e → HasValueWithin budget e ⊎ TakesMoreThan budget e
 
 -- it takes more steps than the budget exactly where it has no value within it
 abbrev pub OverIsExact : Type 0
-OverIsExact = (budget : ℕ) (e : CoreTerm) → IsSimplyTyped e → TakesMoreThan budget e ↔ ¬ HasValueWithin budget e
+OverIsExact = (budget : ℕ) (e : CoreTerm) → HasSimpleType e → TakesMoreThan budget e ↔ ¬ HasValueWithin budget e

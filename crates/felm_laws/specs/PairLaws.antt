@@ -2,8 +2,8 @@
 use Rattle.std.specs.Prelude.{◌≡◌, ◌⊎◌, ℕ, List, [], ◌∷◌, ◌++◌}
 use Rattle.felm_term.specs.CoreType.{CoreType, Signal}
 use Rattle.felm_term.specs.CoreTerm.{CoreTerm}
-use Rattle.felm_term.specs.Typing.{HasType, AreSignals, AreShared}
-use Rattle.felm_term.specs.Inputs.{types_of}
+use Rattle.felm_term.specs.Typing.{HasType, AreSignals, SharedHaveTypes}
+use Rattle.felm_term.specs.Inputs.{signal_types}
 use Rattle.felm_term.specs.Reduction.{IsSignalTerm, Step, Steps, IsFinished}
 use Rattle.felm_term.specs.declared.input.InputDecl.{InputDecl}
 use Rattle.felm_laws.specs.StepLaws.{GoesOn}
@@ -17,12 +17,12 @@ StepsShareAtMostOne =
 abbrev pub StepsKeepSharedTypes : Type 0
 StepsKeepSharedTypes =
     (inputs shared : List CoreType) (B C : List CoreTerm) (e f : CoreTerm) (u : CoreType) → AreSignals inputs
-    → AreShared inputs [] B shared → HasType inputs shared [] e u → Step B e C f
-    → (later : List CoreType) × AreShared inputs [] C (shared ++ later) × HasType inputs (shared ++ later) [] f u
+    → SharedHaveTypes inputs [] B shared → HasType inputs shared [] e u → Step B e C f
+    → (later : List CoreType) × SharedHaveTypes inputs [] C (shared ++ later) × HasType inputs (shared ++ later) [] f u
 
 -- every pair that a program reaches is finished, or goes on: the main term of a program is a signal, so it comes to no value
 abbrev pub ProgramsNeverStick : Type 0
 ProgramsNeverStick =
     (inputs : List InputDecl) (n : ℕ) (B : List CoreTerm) (main f : CoreTerm) (t : CoreType)
-    → HasType (types_of inputs) [] [] main (Signal t) → Steps n [] main B f
-    → IsFinished B f ⊎ GoesOn (types_of inputs) B f (Signal t)
+    → HasType (signal_types inputs) [] [] main (Signal t) → Steps n [] main B f
+    → IsFinished B f ⊎ GoesOn (signal_types inputs) B f (Signal t)

@@ -3,7 +3,7 @@ use Rattle.std.specs.Prelude.{◌≡◌, ℕ, ◌⊎◌, IsTrue, List, []}
 use Rattle.felm_term.specs.CoreType.{CoreType, is_simple}
 use Rattle.felm_term.specs.CoreTerm.{CoreTerm}
 use Rattle.felm_term.specs.Typing.{HasType, AreSignals, PairHasType}
-use Rattle.felm_term.specs.Reduction.{IsValue, IsSignalTerm, AreAllSignalTerms, Step, Steps, HasNoStep, IsFinished}
+use Rattle.felm_term.specs.Reduction.{IsValue, IsSignalTerm, AreSharedSignals, Step, Steps, HasNoStep, IsFinished}
 
 -- a pair has at most one next pair
 abbrev pub OneNextPair : Type 0
@@ -32,7 +32,7 @@ StepsKeepTypes =
 -- the shared signals stay signal terms
 abbrev pub StepsShareSignalTerms : Type 0
 StepsShareSignalTerms =
-    (n : ℕ) (B C : List CoreTerm) (e f : CoreTerm) → Steps n B e C f → AreAllSignalTerms B → AreAllSignalTerms C
+    (n : ℕ) (B C : List CoreTerm) (e f : CoreTerm) → Steps n B e C f → AreSharedSignals B → AreSharedSignals C
 
 -- exactly one next pair, of the same type
 pub record GoesOn (inputs : List CoreType) (B : List CoreTerm) (e : CoreTerm) (u : CoreType) : Type 0 where

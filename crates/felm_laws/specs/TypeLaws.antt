@@ -4,7 +4,7 @@ use Rattle.felm_term.specs.CoreType.{CoreType, is_simple, is_well_formed}
 use Rattle.felm_term.specs.CoreTerm.{CoreTerm, Lam}
 use Rattle.felm_term.specs.Typing.{HasType, AreSignals, IsFunction}
 use Rattle.felm_term.specs.Substitution.{substitute}
-use Rattle.felm_term.specs.Inputs.{types_of}
+use Rattle.felm_term.specs.Inputs.{signal_types}
 use Rattle.felm_term.specs.declared.input.InputDecl.{InputDecl}
 
 abbrev pub AreWellFormed : List CoreType → Type 0
@@ -23,7 +23,7 @@ OneType =
 
 -- declared inputs are signals of simple types
 abbrev pub InputsAreSignals : Type 0
-InputsAreSignals = (declared : List InputDecl) → AreSignals (types_of declared)
+InputsAreSignals = (declared : List InputDecl) → AreSignals (signal_types declared)
 
 -- what has a type has a well-formed one
 abbrev pub TypesAreWellFormed : Type 0

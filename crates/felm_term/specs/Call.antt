@@ -8,7 +8,7 @@ abbrev pub applied : CoreTerm → List CoreTerm → CoreTerm
 applied f [] = f
 applied f (a ∷ arguments) = applied (App f a) arguments
 
--- so many steps lead from a term without shared signals to a value
+-- so many steps lead from a term to a value, and share no signal on the way
 abbrev pub ReachesValue : CoreTerm → ℕ → CoreTerm → Type 0
 ReachesValue e steps v = IsValue v × Steps steps [] e [] v
 

@@ -8,7 +8,7 @@ mutual
   pub data CoreTerm : Type 0 where
     Unit : CoreTerm
     Int : (number : ℤ) → CoreTerm
-    -- the number of binders between the use and its binder
+    -- a variable, by how many other binders stand between it and its own
     Var : (binders : ℕ) → CoreTerm
     Lam : (param : CoreType) (body : CoreTerm) → CoreTerm
     App : (function argument : CoreTerm) → CoreTerm
@@ -29,6 +29,7 @@ mutual
     More : (first : CoreTerm) (rest : CoreTerms) → CoreTerms
 
 abbrev mutual
+  -- a measure for the code: a term is deeper than its parts
   pub depth : CoreTerm → ℕ
   depth Unit = 1
   depth (Int n) = 1
@@ -48,7 +49,7 @@ abbrev mutual
   depth_all End = 1
   depth_all (More t ts) = max (depth t) (depth_all ts) + 1
 
--- how many terms there are
+-- how many arguments there are
 abbrev pub count : CoreTerms → ℕ
 count End = 0
 count (More t ts) = count ts + 1

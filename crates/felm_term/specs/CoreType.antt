@@ -8,6 +8,7 @@ pub data CoreType : Type 0 where
   Arrow : (from to : CoreType) → CoreType
   Signal : (of : CoreType) → CoreType
 
+-- a measure for the code: a type is deeper than its parts
 abbrev pub depth : CoreType → ℕ
 depth Unit = 1
 depth Int = 1

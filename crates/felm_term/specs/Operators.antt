@@ -9,14 +9,15 @@ use Rattle.felm_term.specs.declared.op.Op.TheVariants as op
 abbrev pub wrapped : ℤ → ℤ
 wrapped n = int_wrap w64 n
 
--- 1 where it holds, else 0
+-- a truth value as a number: 1 for true, 0 for false
 abbrev pub truth : Bool → ℤ
 truth holds = if holds then pos 1 else pos 0
 
+-- the number that counts as false
 abbrev pub is_zero : ℤ → Bool
 is_zero n = int_eq n (pos 0)
 
--- the quotient of the magnitudes, negative where one of the two numbers is: it is truncated toward zero
+-- the quotient of the magnitudes, negative where exactly one of the two numbers is: so it is truncated toward zero
 abbrev pub truncated_quotient : ℤ → ℤ → ℤ
 truncated_quotient (pos a) (pos b) = pos (a / b)
 truncated_quotient (pos a) (negsuc b) = neg_ℤ (pos (a / suc b))

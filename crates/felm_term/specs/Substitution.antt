@@ -4,7 +4,8 @@ use Rattle.felm_term.specs.CoreTerm.{CoreTerm, CoreTerms, Int, Var, Lam, App, Bi
 use Rattle.felm_term.specs.CoreTerm as term
 
 abbrev mutual
-  -- the term with the closed term v for the variable of the binder that is k binders out; v has no variable to shift
+  -- the term with the closed term v for the variable of the binder that is k binders out. That binder is the outermost one,
+  -- so no variable lies beyond it; and v has no variable that its place under further binders would change
   pub substitute_at : ℕ → CoreTerm → CoreTerm → CoreTerm
   substitute_at k v term.Unit = term.Unit
   substitute_at k v (Int n) = Int n
@@ -20,6 +21,7 @@ abbrev mutual
   substitute_at k v (Foldp f b s) = Foldp (substitute_at k v f) (substitute_at k v b) (substitute_at k v s)
   substitute_at k v (Async s) = Async (substitute_at k v s)
 
+  -- the same in each argument
   pub substitute_all : ℕ → CoreTerm → CoreTerms → CoreTerms
   substitute_all k v End = End
   substitute_all k v (More t ts) = More (substitute_at k v t) (substitute_all k v ts)

@@ -1,3 +1,4 @@
+-- Values and messages as texts.
 use Rattle.std.specs.Prelude.{ℕ, List, ◌++◌, codes}
 use Rattle.std.specs.Fmt.{signed_decimal}
 use Rattle.felm_term.specs.declared.value.Value.{Value}

@@ -24,7 +24,7 @@ module _ (inputs shared : List CoreType) where
     -- a let of a signal type has a body of a signal type
     HasType g (term.Let a b) u =
         (p : CoreType) × HasType g a p × HasType (p ∷ g) b u × (IsTrue (is_signal p) → IsTrue (is_signal u))
-    -- a function of one to nine simple types, and as many signals of these
+    -- a function of a simple type takes the values of one to nine signals
     HasType g (term.Lift f ts) u =
         (p : CoreType) × (r : CoreType) × (u ≡ Signal r) × IsTrue (is_simple p) × HasType g f p × AreTakenBy g p ts r
         × (1 ≤ count ts) × (count ts ≤ 9)
@@ -44,21 +44,21 @@ abbrev pub AreSignals : List CoreType → Type 0
 AreSignals [] = Unit {0}
 AreSignals (t ∷ ts) = IsTrue (is_simple_signal t) × AreSignals ts
 
--- each shared signal is a signal under those before it; all of them have the types `after`
-abbrev pub AreShared : List CoreType → List CoreType → List CoreTerm → List CoreType → Type 0
-AreShared inputs before [] after = before ≡ after
-AreShared inputs before (s ∷ B) after =
-    (t : CoreType) × HasType inputs before [] s (Signal t) × AreShared inputs (before ++ Signal t ∷ []) B after
+-- each term of B is a signal under those before it; `after` is `before` followed by the types of B's terms
+abbrev pub SharedHaveTypes : List CoreType → List CoreType → List CoreTerm → List CoreType → Type 0
+SharedHaveTypes inputs before [] after = before ≡ after
+SharedHaveTypes inputs before (s ∷ B) after =
+    (t : CoreType) × HasType inputs before [] s (Signal t) × SharedHaveTypes inputs (before ++ Signal t ∷ []) B after
 
--- a term beside shared signals, with no free variable
+-- the shared signals are typed in order, and beside them the term, which has no free variable, has type u
 abbrev pub PairHasType : List CoreType → List CoreTerm → CoreTerm → CoreType → Type 0
-PairHasType inputs B e u = (shared : List CoreType) × AreShared inputs [] B shared × HasType inputs shared [] e u
+PairHasType inputs B e u = (shared : List CoreType) × SharedHaveTypes inputs [] B shared × HasType inputs shared [] e u
 
--- a closed term of a simple type, without inputs and shared signals
-abbrev pub IsSimplyTyped : CoreTerm → Type 0
-IsSimplyTyped e = (u : CoreType) × IsTrue (is_simple u) × HasType [] [] [] e u
+-- the term is closed and has a simple type, without inputs and shared signals
+abbrev pub HasSimpleType : CoreTerm → Type 0
+HasSimpleType e = (u : CoreType) × IsTrue (is_simple u) × HasType [] [] [] e u
 
 -- a closed function of a simple type
 abbrev pub IsFunction : CoreTerm → Type 0
-IsFunction (term.Lam p b) = IsSimplyTyped (term.Lam p b)
+IsFunction (term.Lam p b) = HasSimpleType (term.Lam p b)
 IsFunction _ = ⊥

@@ -18,7 +18,7 @@ IsPlain value.Unit = Unit {0}
 IsPlain (value.Int number) = Unit {0}
 IsPlain (value.Fun function) = ⊥
 
--- the signal's present value
+-- what a message says that its signal has
 abbrev pub value_of : Message → Value
 value_of (Change value) = value
 value_of (NoChange value) = value

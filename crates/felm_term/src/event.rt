@@ -21,7 +21,7 @@ pub type Events = Items<Event>;
 pub type Script = Items<Event>;
 
 impl Event {
-    /// An equal event. It can't be refused where the value is no function.
+    /// A copy. An event without a function is always copied.
     pub fn copy(&self) -> Result<Event, Memory>
         ensures value { IfOk result (λ copy. copy ≡ self.now) }
         ensures plain { IsPlain self.now.value → IsOk result }

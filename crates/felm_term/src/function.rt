@@ -32,7 +32,7 @@ impl Model for Function {
 }
 
 impl Function {
-    /// The function that stands for a term.
+    /// A function with this term.
     pub fn make(alloc: Global, term: Term) -> Result<Function, Memory>
         requires { IsFunction term }
         ensures { IfOk result (λ function. function ≡ term) }
@@ -43,7 +43,7 @@ impl Function {
         }
     }
 
-    /// An equal function, whose term is not copied.
+    /// A copy, which shares the term.
     pub fn copy(&self) -> Result<Function, Memory>
         ensures { IfOk result (λ copy. copy ≡ self.now) }
     {
@@ -53,7 +53,7 @@ impl Function {
         }
     }
 
-    /// The term that it stands for.
+    /// Its term, lent.
     pub fn as_term(&self) -> &Term
         ensures term { result.now ≡ self.now }
         ensures function { IsFunction result.now }
@@ -61,7 +61,7 @@ impl Function {
         &self.term
     }
 
-    /// A copy of the term that it stands for.
+    /// A copy of its term.
     pub fn to_term(&self, alloc: Global) -> Result<Term, Memory>
         ensures { IfOk result (λ term. term ≡ self.now) }
     {

@@ -20,7 +20,7 @@ pub enum InputTy {
 pub struct InputDecl {
     pub name: Name,
     pub ty: InputTy,
-    /// The value before the first event. It is 0 and unused for an input of type unit.
+    /// The value before the first event, unused for an input of type unit.
     pub default: i64,
 }
 

@@ -16,6 +16,8 @@ mod op;
 mod scope;
 mod substitution;
 mod term;
+#[cfg(test)]
+mod tests;
 mod ty;
 mod typing;
 mod value;
@@ -34,4 +36,4 @@ pub use substitution::{substitute, substitute_term};
 pub use term::{Term, TermForm, Terms, TermsForm, same_term};
 pub use ty::{Ty, TyForm, same_ty};
 pub use typing::type_of;
-pub use value::Value;
+pub use value::{Value, same_value};

@@ -19,7 +19,7 @@ pub enum Message {
 pub type Messages = Items<Message>;
 
 impl Message {
-    /// An equal message. It can't be refused where its value is no function.
+    /// A copy. A message without a function is always copied.
     pub fn copy(&self) -> Result<Message, Memory>
         ensures value { IfOk result (λ copy. copy ≡ self.now) }
         ensures plain { IsPlain (value_of self.now) → IsOk result }

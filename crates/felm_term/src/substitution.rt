@@ -87,10 +87,13 @@ fn substitute_form(
             yes: substitute_boxed(alloc, yes, binders, closed)?,
             no: substitute_boxed(alloc, no, binders, closed)?,
         }),
-        TermForm::Let { bound, body } => Ok(TermForm::Let {
-            bound: substitute_boxed(alloc, bound, binders, closed)?,
-            body: substitute_boxed(alloc, body, deeper(binders)?, closed)?,
-        }),
+        TermForm::Let { bound, body } => {
+            let inside = deeper(binders)?;
+            Ok(TermForm::Let {
+                bound: substitute_boxed(alloc, bound, binders, closed)?,
+                body: substitute_boxed(alloc, body, inside, closed)?,
+            })
+        }
         TermForm::Input(number) => Ok(TermForm::Input(number)),
         TermForm::Node(number) => Ok(TermForm::Node(number)),
         TermForm::Lift {

@@ -20,7 +20,7 @@ pub struct Term {
 pub enum TermForm {
     Unit,
     Int(i64),
-    /// The number of binders between the use and its binder.
+    /// A variable, by how many other binders stand between it and its own.
     Var(u32),
     Lam {
         param: Ty,

@@ -90,9 +90,10 @@ impl Ty {
     pub fn is_simple_signal(&self) -> bool
         ensures { result ≡ is_simple_signal self.now }
     {
-        match &self.form {
-            TyForm::Signal(of) => of.is_simple(),
-            _ => false,
+        if let TyForm::Signal(of) = &self.form {
+            of.is_simple()
+        } else {
+            false
         }
     }
 }

@@ -17,7 +17,7 @@ pub enum Value {
 }
 
 impl Value {
-    /// An equal value. It can't be refused where the value is no function.
+    /// A copy. A value without a function is always copied.
     pub fn copy(&self) -> Result<Value, Memory>
         ensures value { IfOk result (λ copy. copy ≡ self.now) }
         ensures plain { IsPlain self.now → IsOk result }
@@ -29,7 +29,7 @@ impl Value {
         }
     }
 
-    /// The closed term that the value is.
+    /// This value as a closed term.
     pub fn to_term(&self, alloc: Global) -> Result<Term, Memory>
         ensures { IfOk result (λ term. term ≡ term_of self.now) }
     {

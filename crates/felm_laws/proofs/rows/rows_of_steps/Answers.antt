@@ -2,7 +2,7 @@ use Rattle.std.proofs.Common.{List, []}
 use Rattle.std.specs.Int.{int_wrap}
 use Rattle.felm_term.specs.CoreTerm.{CoreTerm, Lam, App, Bin, Lift, Foldp, Async, Var, More, End}
 use Rattle.felm_term.specs.CoreTerm as term
-use Rattle.felm_term.specs.Reduction.{Step, HasNoStep, op, cond, app, letv, share, in_function, in_left, in_right, in_condition, in_bound, in_lifted, in_arguments, in_folded, in_base, in_signal, in_async, in_first, in_rest}
+use Rattle.felm_term.specs.Reduction.{Step, HasNoStep, op, cond, app, letv, share, in_function, in_left, in_right, in_condition, in_bound, in_lift_function, in_arguments, in_foldp_function, in_base, in_signal, in_async, in_first, in_rest}
 use Rattle.felm_term.specs.declared.op.Op.TheVariants as operator
 use Rattle.felm_laws.specs.Rows.{sum, x}
 use Rattle.felm_laws.proofs.OneNext.{value_stays, signal_stays}
@@ -39,12 +39,12 @@ returns-clause-steps c = (
                           (
                             in_bound op,
                             (
-                              in_lifted cond,
+                              in_lift_function cond,
                               (
                                 in_arguments tt (in_first (share tt)),
                                 (
                                   in_arguments tt (in_rest tt (in_first (share tt))),
-                                  (in_folded cond, (in_base tt op, (in_signal tt tt (share tt), (in_async (share tt), tt)))),
+                                  (in_foldp_function cond, (in_base tt op, (in_signal tt tt (share tt), (in_async (share tt), tt)))),
                                 ),
                               ),
                             ),
