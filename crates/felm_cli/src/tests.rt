@@ -140,6 +140,7 @@ fn a_load_that_fails_is_named(rt: HostRuntime) -> Result<(), Fail> {
         let words = words(alloc, &["sync", "p", "s"])?;
         let status = felm_once(alloc, words.as_slice(), &mut files, &mut out, &mut err);
         assert_eq!(rt; status, Status::Read { which });
+        assert_eq!(rt; files.faults(), 1);
         assert_eq!(rt; out.bytes(), b"".as_slice());
         assert_eq!(rt; err.bytes(), line);
     }
@@ -159,6 +160,8 @@ fn a_put_that_fails_leaves_a_prefix(rt: HostRuntime) -> Result<(), Fail> {
         let status = felm_once(alloc, words.as_slice(), &mut files, &mut out, &mut err);
         let written = ((put - 1) * 10).min(62) as usize;
         assert_eq!(rt; out.bytes(), RESULT.get(..written).ok_or("short")?);
+        assert_eq!(rt; files.faults(), 0);
+        assert_eq!(rt; out.faults(), u64::from(put <= 7));
         if put <= 7 {
             assert_eq!(rt; status, Status::Write);
             assert_eq!(rt; err.bytes(), b"felm: cannot write\n".as_slice());

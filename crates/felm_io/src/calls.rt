@@ -49,6 +49,13 @@ impl Calls {
         self.failing.iter().any(|call| *call == next)
     }
 
+    /// How many calls failed.
+    pub(crate) fn faults(&self) -> u64
+        ensures { result ≡ self.now.faults }
+    {
+        self.faults
+    }
+
     /// Counts one more call, and that it failed.
     pub(crate) fn count(&mut self, failed: bool)
         ensures { self.new ≡ after_call self.old failed }

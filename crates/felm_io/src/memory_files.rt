@@ -51,6 +51,13 @@ impl MemoryFiles {
     {
         self.loads.fail_at(call)
     }
+
+    /// How many loads failed.
+    pub fn faults(&self) -> u64
+        ensures { result ≡ self.now.loads.faults }
+    {
+        self.loads.faults()
+    }
 }
 
 impl Files for MemoryFiles {

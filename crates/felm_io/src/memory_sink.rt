@@ -54,6 +54,13 @@ impl MemorySink {
         self.puts.fail_at(call)
     }
 
+    /// How many puts failed.
+    pub fn faults(&self) -> u64
+        ensures { result ≡ self.now.puts.faults }
+    {
+        self.puts.faults()
+    }
+
     /// The bytes so far.
     pub fn bytes(&self) -> &[u8]
         ensures { result.now ≡ self.now.gathered.bytes }

@@ -57,6 +57,40 @@ fn check_tokens(
 }
 
 #[test]
+fn reads_what_no_grammar_takes(rt: HostRuntime) -> Result<(), Fail> {
+    let cut_short = [
+        (INPUT, 0, 5),
+        (NAME, 6, 7),
+        (COLON, 8, 9),
+        (INT, 10, 13),
+        (EQUALS, 14, 15),
+        (TokenKind::Int(0), 16, 17),
+        (MAIN, 18, 22),
+        (EQUALS, 23, 24),
+        (TokenKind::Word(WordKind::Let), 25, 28),
+        (NAME, 29, 30),
+        (EQUALS, 31, 32),
+    ];
+    check_tokens(
+        &rt,
+        rt.alloc(),
+        b"input x : int = 0\nmain = let y =",
+        &cut_short,
+    )?;
+    let twice = [(INPUT, 0, 5), (NAME, 6, 7), (INPUT, 8, 13), (NAME, 14, 15)];
+    check_tokens(&rt, rt.alloc(), b"input x\ninput x", &twice)?;
+    let nested = [
+        (OPEN, 0, 1),
+        (OPEN, 1, 2),
+        (NAME, 2, 3),
+        (CLOSE, 3, 4),
+        (CLOSE, 4, 5),
+    ];
+    check_tokens(&rt, rt.alloc(), b"((x))", &nested)?;
+    Ok(())
+}
+
+#[test]
 fn reads_a_program(rt: HostRuntime) -> Result<(), Fail> {
     let text = b"input x : int = 0\nmain = lift1 (\\n:int. 9223372036854775808) x\n";
     let want = [
