@@ -12,8 +12,11 @@ use Rattle.felm_laws.proofs.StepTypes.{pair_typed}
 pub value_has_no_step : (B : List CoreTerm) (v : CoreTerm) → IsValue v → HasNoStep B v
 value_has_no_step B v w = λ C f s. value_stays w s
 
-pub signal_is_finished : (B : List CoreTerm) (s : CoreTerm) → IsSignalTerm s → IsFinished B s
-signal_is_finished B s w = ((λ C f r. signal_stays w r), w)
+pub signal_has_no_step : (B : List CoreTerm) (s : CoreTerm) → IsSignalTerm s → HasNoStep B s
+signal_has_no_step B s w = λ C f r. signal_stays w r
+
+pub signal_is_finished : (B : List CoreTerm) (s : CoreTerm) → AreSharedSignals B → IsSignalTerm s → IsFinished B s
+signal_is_finished B s b w = (b, signal_has_no_step B s w, w)
 
 -- ---- one after another
 

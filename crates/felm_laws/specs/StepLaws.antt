@@ -13,9 +13,13 @@ OneNextPair = (B C D : List CoreTerm) (e f g : CoreTerm) → Step B e C f → St
 abbrev pub ValuesStay : Type 0
 ValuesStay = (B : List CoreTerm) (v : CoreTerm) → IsValue v → HasNoStep B v
 
--- a signal term takes no step, so it finishes a pair
+-- a signal term takes no step
+abbrev pub SignalTermsStay : Type 0
+SignalTermsStay = (B : List CoreTerm) (s : CoreTerm) → IsSignalTerm s → HasNoStep B s
+
+-- so beside shared signals it is a finished pair
 abbrev pub SignalTermsAreFinished : Type 0
-SignalTermsAreFinished = (B : List CoreTerm) (s : CoreTerm) → IsSignalTerm s → IsFinished B s
+SignalTermsAreFinished = (B : List CoreTerm) (s : CoreTerm) → AreSharedSignals B → IsSignalTerm s → IsFinished B s
 
 -- a pair comes to one end at most, and by one number of steps
 abbrev pub OneEnd : Type 0

@@ -21,8 +21,8 @@ pub use outcomes::{
 pub use pairs::{programs_never_stick, steps_keep_shared_types, steps_share_at_most_one};
 pub use rows::{rows_of_calls, rows_of_steps, rows_of_types};
 pub use steps::{
-    one_end, one_next_pair, pairs_never_stick, signal_terms_are_finished, simple_terms_never_stick,
-    steps_keep_types, steps_share_signal_terms, values_stay,
+    one_end, one_next_pair, pairs_never_stick, signal_terms_are_finished, signal_terms_stay,
+    simple_terms_never_stick, steps_keep_types, steps_share_signal_terms, values_stay,
 };
 pub use substitution::{
     closed_terms_stay, outer_substitution_keeps_types, substitutions_commute, values_keep_types,

@@ -1,4 +1,4 @@
-ghost use Rattle.felm_laws.specs.StepLaws.{OneNextPair, ValuesStay, SignalTermsAreFinished, OneEnd, StepsKeepTypes, StepsShareSignalTerms, PairsNeverStick, SimpleTermsNeverStick};
+ghost use Rattle.felm_laws.specs.StepLaws.{OneNextPair, ValuesStay, SignalTermsStay, SignalTermsAreFinished, OneEnd, StepsKeepTypes, StepsShareSignalTerms, PairsNeverStick, SimpleTermsNeverStick};
 
 /// A pair has at most one next pair.
 pub fn one_next_pair()
@@ -10,7 +10,12 @@ pub fn values_stay()
     ensures { ValuesStay }
 {}
 
-/// A signal term takes no step, so it finishes a pair.
+/// A signal term takes no step.
+pub fn signal_terms_stay()
+    ensures { SignalTermsStay }
+{}
+
+/// A signal term finishes a pair.
 pub fn signal_terms_are_finished()
     ensures { SignalTermsAreFinished }
 {}

@@ -36,15 +36,15 @@ returns-clause-values c = (
 
 pub returns-clause-finished : goal.returns-clause-finished
 returns-clause-finished c = (
-  (none, signal_is_finished _ _ tt),
+  (none, signal_is_finished _ _ tt tt),
   (
-    (more (more none (share tt)) (share tt), signal_is_finished _ _ tt),
+    (more (more none (share tt)) (share tt), signal_is_finished _ _ (tt, (tt, tt)) tt),
     (
-      (more none (share tt), signal_is_finished _ _ (tt, (tt, (tt, tt)))),
+      (more none (share tt), signal_is_finished _ _ (tt, tt) (tt, (tt, (tt, tt)))),
       (
         (
           more (more (more (more (more none (letv tt)) app) (in_bound app)) (in_bound (share tt))) (share (tt, (tt, tt))),
-          signal_is_finished _ _ (tt, (tt, tt)),
+          signal_is_finished _ _ (tt, ((tt, (tt, tt)), tt)) (tt, (tt, tt)),
         ),
         tt,
       ),
