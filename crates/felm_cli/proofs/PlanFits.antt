@@ -171,6 +171,8 @@ journal_is_complete program script plan h =
     let k = mapped (λ main. let it : Program = record { inputs = n.0.inputs; main = main } in it) (number_shown n.0) (record { inputs = plan.inputs; main = plan.main }) n.2 in
     let inputs : n.0.inputs ≡ plan.inputs = ap (λ (p : Program). p.inputs) k.2 in
     let main : k.0 ≡ plan.main = ap (λ (p : Program). p.main) k.2 in
-    let within : plan.main < length plan.inputs = carried_below k.0 plan.main n.0.inputs plan.inputs main inputs (main_within n.0 k.0 k.1) in
-    (plain_is_complete plan.inputs plan.script 1048576 (script_fits program script (record { inputs = plan.inputs; main = plan.main }) plan.script r.0 r.1)
-    (script_within program script plan h), within)
+    let within : plan.main < length plan.inputs = carried_below k.0 plan.main n.0.inputs plan.inputs main inputs (main_within n.0 k.0 k.1) in (
+      plain_is_complete plan.inputs plan.script 1048576 (script_fits program script (record { inputs = plan.inputs; main = plan.main }) plan.script r.0 r.1)
+          (script_within program script plan h),
+      within,
+    )

@@ -59,12 +59,12 @@ pub front_is_plain : (script events : List Event) (limit count : ℕ) → events
 front_is_plain script events limit count same least =
     elim (leb_tells limit (length script)) as (λ _. take count events ≡ plain_journal script limit) [
       | inl p ↦
-        let all : count ≡ limit = omega arith in
-        ap (take count) same ∙ ap (λ n. take n script) all ∙ sym (plain_is_front script limit)
+          let all : count ≡ limit = omega arith in
+          ap (take count) same ∙ ap (λ n. take n script) all ∙ sym (plain_is_front script limit)
       | inr p ↦
-        let within : length script ≤ count = omega arith in
-        let short : length script ≤ limit = omega arith in
-        ap (take count) same ∙ take_all count script within ∙ sym (take_all limit script short) ∙ sym (plain_is_front script limit)
+          let within : length script ≤ count = omega arith in
+          let short : length script ≤ limit = omega arith in
+          ap (take count) same ∙ take_all count script within ∙ sym (take_all limit script short) ∙ sym (plain_is_front script limit)
     ]
 
 -- what the loop leaves is the run

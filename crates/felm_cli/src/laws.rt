@@ -4,11 +4,9 @@ ghost use Rattle.felm_cli.specs.Laws.{PlannedJournalIsTheScript, PlannedJournalI
 /// The journal of a plan of two texts is its script.
 pub fn planned_journal_is_the_script()
     ensures { PlannedJournalIsTheScript }
-{
-}
+{}
 
 /// The journal of a plan of two texts is complete, and its shown input is one of the declared ones.
 pub fn planned_journal_is_complete()
     ensures { PlannedJournalIsComplete }
-{
-}
+{}

@@ -89,7 +89,12 @@ fn file_named<'a>(order: &SyncOrder<'a>, status: &Status) -> &'a str
 }
 
 /// Loads the two texts of an order, and runs them.
-fn sync<F: Files, S: Sink>(alloc: Global, order: SyncOrder<'_>, files: &mut F, out: &mut S) -> Status
+fn sync<F: Files, S: Sink>(
+    alloc: Global,
+    order: SyncOrder<'_>,
+    files: &mut F,
+    out: &mut S,
+) -> Status
     ensures outcome { SyncOutcome (F.bytes files.old) (F.faults files.old) (F.faults files.new) (sync_of order.entry)
         (S.bytes out.old) (S.bytes out.new) (S.faults out.old) (S.faults out.new) (S.short out.old) (S.short out.new) result }
     ensures files { (name : List ℕ) → F.bytes files.new name ≡ F.bytes files.old name }

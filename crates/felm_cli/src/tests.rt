@@ -1,4 +1,4 @@
-use crate::{Status, Which, felm_over_sure, felm_once};
+use crate::{Status, Which, felm_once, felm_over_sure};
 use felm_io::{MemoryFiles, MemorySink, SureFiles, SureSink};
 use std::alloc::{AllocError, Global};
 use std::test::Fail;
@@ -18,7 +18,11 @@ fn words(alloc: Global, texts: &[&str]) -> Result<Vec<String>, AllocError> {
 }
 
 /// How `sync` of two texts ends, with what it puts to `out` and to `err`.
-fn sync(alloc: Global, program: &[u8], script: &[u8]) -> Result<(Status, SureSink, SureSink), Fail> {
+fn sync(
+    alloc: Global,
+    program: &[u8],
+    script: &[u8],
+) -> Result<(Status, SureSink, SureSink), Fail> {
     let mut files = SureFiles::make(alloc);
     files.add("p", program).map_err(|_| AllocError)?;
     files.add("s", script).map_err(|_| AllocError)?;
@@ -91,7 +95,10 @@ fn other_forms_are_not_built(rt: HostRuntime) -> Result<(), Fail> {
         let (status, out, err) = sync(rt.alloc(), program, script)?;
         assert_eq!(rt; status, Status::NotBuilt);
         assert_eq!(rt; out.bytes(), b"".as_slice());
-        assert_eq!(rt; err.bytes(), b"felm: this form is not built yet\n".as_slice());
+        assert_eq!(rt;
+            err.bytes(),
+            b"felm: this form is not built yet\n".as_slice()
+        );
     }
     Ok(())
 }

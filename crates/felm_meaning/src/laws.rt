@@ -4,17 +4,14 @@ ghost use Rattle.felm_meaning.specs.Laws.{MessagesStandAtTheirPositions, PlainJo
 /// The messages of an input over a journal are as many as its events, and each is that of its position.
 pub fn messages_stand_at_their_positions()
     ensures { MessagesStandAtTheirPositions }
-{
-}
+{}
 
 /// A script within the limit is its own plain journal, and a longer one's is its front of that length.
 pub fn plain_journal_is_the_script()
     ensures { PlainJournalIsTheScript }
-{
-}
+{}
 
 /// The plain journal of a script within the limit is complete.
 pub fn plain_journal_is_complete()
     ensures { PlainJournalIsComplete }
-{
-}
+{}

@@ -6,5 +6,7 @@
 mod laws;
 mod plan;
 
-pub use laws::{messages_stand_at_their_positions, plain_journal_is_complete, plain_journal_is_the_script};
+pub use laws::{
+    messages_stand_at_their_positions, plain_journal_is_complete, plain_journal_is_the_script,
+};
 pub use plan::{History, Plan};

@@ -21,14 +21,14 @@ loop-rest-preserved c =
     let cut = c.cut_line.ensures.lines in
     elim c.match-branch-3.branch [
       | in-Blank w ↦
-        let none = rw (c.as_slice.ensures.value, w.in-Blank.is) at c.in_ok-line_of.ensures in
-        rw (w.inputs-is, w.last-is) (blank_line inputs (option_copied c.loop-rest.last) rest line after fields cut c.in_ok-fields.ensures none ∙ c.loop-rest.invariant)
+          let none = rw (c.as_slice.ensures.value, w.in-Blank.is) at c.in_ok-line_of.ensures in
+          rw (w.inputs-is, w.last-is) (blank_line inputs (option_copied c.loop-rest.last) rest line after fields cut c.in_ok-fields.ensures none ∙ c.loop-rest.invariant)
       | in-Declares+else-is_some+in_ok-push-in-Declares w ↦
-        let declared = rw (c.as_slice.ensures.value, w.in-Declares.is) at c.in_ok-line_of.ensures in
-        rw (w.inputs-is, w.last-is) (declaring_line inputs w.push.new.self.items c.loop-rest.last rest line after fields w.in-Declares.input cut c.in_ok-fields.ensures
-        declared (sym w.is_some.ensures ∙ w.if-is_some.false) w.in_ok-push-in-Declares.ensures.ok ∙ c.loop-rest.invariant)
+          let declared = rw (c.as_slice.ensures.value, w.in-Declares.is) at c.in_ok-line_of.ensures in
+          rw (w.inputs-is, w.last-is) (declaring_line inputs w.push.new.self.items c.loop-rest.last rest line after fields w.in-Declares.input cut c.in_ok-fields.ensures
+          declared (sym w.is_some.ensures ∙ w.if-is_some.false) w.in_ok-push-in-Declares.ensures.ok ∙ c.loop-rest.invariant)
       | in-Shows+else-is_some-2 w ↦
-        let shows = rw (c.as_slice.ensures.value, w.in-Shows.is) at c.in_ok-line_of.ensures in
-        rw (w.inputs-is, w.last-is) (showing_line inputs c.loop-rest.last rest line after fields w.in-Shows.name.now cut c.in_ok-fields.ensures
-        shows (sym w.is_some-in-Shows.ensures ∙ w.if-is_some-2.false) ∙ c.loop-rest.invariant)
+          let shows = rw (c.as_slice.ensures.value, w.in-Shows.is) at c.in_ok-line_of.ensures in
+          rw (w.inputs-is, w.last-is) (showing_line inputs c.loop-rest.last rest line after fields w.in-Shows.name.now cut c.in_ok-fields.ensures
+          shows (sym w.is_some-in-Shows.ensures ∙ w.if-is_some-2.false) ∙ c.loop-rest.invariant)
     ]

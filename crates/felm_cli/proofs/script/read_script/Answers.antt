@@ -17,13 +17,13 @@ loop-rest-preserved c =
     (c.is_empty-in-loop-rest.ensures ∙ ap (λ n. n == 0) counted) in
     elim c.if-not-is_empty.branch [
       | then-not-is_empty+in-Some+in_ok-push w ↦
-        let some : is_filled fields ≡ true = filled ∙ ap not w.if-not-is_empty.true in
-        let said = rw w.as_slice.ensures.value at w.in-Some.ensures in
-        rw w.script-is (event_line names c.loop-rest.script.items w.push.new.self.items rest line after fields w.in-Some.event c.cut_line.ensures.lines c.in_ok-fields.ensures some
-        said w.in_ok-push.ensures.ok ∙ c.loop-rest.invariant)
+          let some : is_filled fields ≡ true = filled ∙ ap not w.if-not-is_empty.true in
+          let said = rw w.as_slice.ensures.value at w.in-Some.ensures in
+          rw w.script-is (event_line names c.loop-rest.script.items w.push.new.self.items rest line after fields w.in-Some.event c.cut_line.ensures.lines c.in_ok-fields.ensures some
+          said w.in_ok-push.ensures.ok ∙ c.loop-rest.invariant)
       | else-not-is_empty w ↦
-        let none : is_filled fields ≡ false = filled ∙ ap not w.if-not-is_empty.false in
-        rw w.script-is (blank_line names c.loop-rest.script.items rest line after fields c.cut_line.ensures.lines c.in_ok-fields.ensures none ∙ c.loop-rest.invariant)
+          let none : is_filled fields ≡ false = filled ∙ ap not w.if-not-is_empty.false in
+          rw w.script-is (blank_line names c.loop-rest.script.items rest line after fields c.cut_line.ensures.lines c.in_ok-fields.ensures none ∙ c.loop-rest.invariant)
     ]
 
 pub returns : goal.returns
