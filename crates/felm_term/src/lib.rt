@@ -13,6 +13,7 @@ mod memory;
 mod message;
 mod name;
 mod op;
+pub mod rows;
 mod scope;
 mod substitution;
 mod term;

@@ -3,8 +3,9 @@ ghost use Rattle.felm_term.specs.CoreTerm as core;
 ghost use Rattle.felm_term.specs.CoreType as type;
 
 use super::{
-    Event, Events, Function, Memory, Message, Name, Op, Scope, Term, TermForm, Ty, TyForm, Value,
-    apply_op, boxed, same_term, same_ty, same_value, substitute, substitute_term, type_of,
+    Event, Events, Function, InputDecl, InputTy, Inputs, Memory, Message, Name, Op, Scope, Term,
+    TermForm, Ty, TyForm, Value, apply_op, boxed, same_term, same_ty, same_value, substitute,
+    substitute_term, type_of,
 };
 use std::alloc::Global;
 use std::test::Fail;
@@ -162,8 +163,18 @@ fn lists_and_names_take_items(rt: HostRuntime) -> Result<(), Fail> {
         })?;
     }
     assert_eq!(&rt; events.len(), 2);
+    let copy = events.at(1).copy()?;
+    assert_eq!(&rt; copy.source, 1);
     let name = Name::of(rt.alloc(), "x")?;
     assert_eq!(&rt; name.as_str(), "x");
+    let mut inputs = Inputs::make(rt.alloc());
+    inputs.reserve(1)?;
+    inputs.push(InputDecl {
+        name,
+        ty: InputTy::Int,
+        default: 7,
+    })?;
+    assert_eq!(&rt; inputs.len(), 1);
     Ok(())
 }
 
