@@ -7,10 +7,12 @@ abbrev pub lines_of : List ℕ → List (List ℕ)
 lines_of [] = []
 lines_of (b ∷ rest) = if b == 10 then [] ∷ lines_of rest else onto_first b (lines_of rest)
 
+-- whether a list has an item
 abbrev pub is_filled : {T : Type 0} → List T → Bool
 is_filled [] = false
 is_filled (x ∷ xs) = true
 
+-- the byte that fields are separated by
 abbrev pub is_space : ℕ → Bool
 is_space b = b == 32
 

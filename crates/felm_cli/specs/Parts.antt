@@ -7,6 +7,7 @@ use Rattle.felm_cli.specs.declared.program.Listed.{Listed}
 use Rattle.felm_cli.specs.Fields.{is_filled}
 use Rattle.felm_cli.specs.Program.{Named, declared_of, shown_of}
 
+-- what was read, without the spare room of its list
 abbrev pub named : Listed → Named
 named listed = record { inputs = listed.inputs.items; shown = listed.shown.now }
 

@@ -25,10 +25,11 @@ declared_of (input ∷ name ∷ colon ∷ ty ∷ equals ∷ number ∷ []) =
     if is_declaration input name colon ty equals then option_map (declaration name) (signed_of number) else None
 declared_of fields = None
 
--- the name that a line shows: `main = NAME`
+-- the name behind `main =`, if the other two fields are these
 abbrev pub shown_by : List ℕ → List ℕ → List ℕ → Option (List ℕ)
 shown_by main equals name = if bytes_eq main (codes "main") && bytes_eq equals (codes "=") then Some name else None
 
+-- the name that a line shows: `main = NAME`
 abbrev pub shown_of : List (List ℕ) → Option (List ℕ)
 shown_of (main ∷ equals ∷ name ∷ []) = shown_by main equals name
 shown_of fields = None
@@ -38,6 +39,7 @@ pub record Named : Type 0 where
   pub inputs : List InputDecl
   pub shown : List ℕ
 
+-- one more declaration, ahead of the others
 abbrev pub with_input : InputDecl → Named → Named
 with_input input named = record { inputs = input ∷ named.inputs; shown = named.shown }
 
@@ -64,8 +66,10 @@ number_shown named =
     then position (bytes_eq named.shown) (names_of named.inputs)
     else None
 
+-- the program of declared inputs and a shown name
 abbrev pub settled_of : Named → Option Program
 settled_of named = option_map (λ main. record { inputs = named.inputs; main = main }) (number_shown named)
 
+-- the program of a text
 abbrev pub program_of : List ℕ → Option Program
 program_of text = option_and_then settled_of (named_of (filled_lines_of text))

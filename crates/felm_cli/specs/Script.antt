@@ -11,6 +11,7 @@ abbrev pub event_with : List (List ℕ) → List ℕ → List ℕ → Option Eve
 event_with names name number =
     option_and_then (λ source. option_map (λ n. record { source = source; value = Int n }) (signed_of number)) (position (bytes_eq name) names)
 
+-- the event of a line
 abbrev pub event_of : List (List ℕ) → List (List ℕ) → Option Event
 event_of names (name ∷ number ∷ []) = event_with names name number
 event_of names fields = None
@@ -25,5 +26,6 @@ events_of names (line ∷ lines) =
 abbrev pub limited : List Event → Option (List Event)
 limited events = if nat_le (length events) 1048576 then Some events else None
 
+-- the events of a text over inputs with these names
 abbrev pub script_of : List (List ℕ) → List ℕ → Option (List Event)
 script_of names text = option_and_then limited (events_of names (filled_lines_of text))

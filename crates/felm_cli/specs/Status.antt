@@ -3,6 +3,7 @@ use Rattle.std.specs.Prelude.{ℕ}
 use Rattle.felm_cli.specs.declared.status.Status.{Status}
 use Rattle.felm_cli.specs.declared.status.Status.TheVariants.{Success, Usage, Read, Write, Memory, NotBuilt}
 
+-- the number that the process ends with
 abbrev pub code_of : Status → ℕ
 code_of Success = 0
 code_of Usage = 2

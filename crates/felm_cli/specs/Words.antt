@@ -11,6 +11,7 @@ abbrev pub is_file : List ℕ → Bool
 is_file [] = false
 is_file (c ∷ cs) = not (c == 45)
 
+-- the order of three words
 abbrev pub order_of_three : List ℕ → List ℕ → List ℕ → Option SyncOrder
 order_of_three command program script =
     if bytes_eq command (codes "sync") && is_file program && is_file script then Some (record { program = program; script = script }) else None

@@ -11,14 +11,18 @@ use std::marker::Model;
 /// The type of an input's values.
 #[derive(Clone, Copy, Debug, PartialEq, Eq)]
 pub enum InputTy {
+    /// Numbers of 64 bits.
     Int,
+    /// The one value of type unit.
     Unit,
 }
 
 /// A declared input.
 #[derive(Debug, Drop)]
 pub struct InputDecl {
+    /// What programs and scripts call it.
     pub name: Name,
+    /// The type of its values.
     pub ty: InputTy,
     /// The value before the first event, unused for an input of type unit.
     pub default: i64,

@@ -4,7 +4,8 @@ use crate::memory::Memory;
 use std::alloc::Global;
 use std::marker::Model;
 
-/// A list that tells how many items it can still take without asking for memory.
+/// A list, which contracts see with the number of items that it can still take without asking for
+/// memory.
 #[derive(Debug, Drop)]
 pub struct Items<T> {
     items: Vec<T>,

@@ -30,6 +30,7 @@ impl Name {
         }
     }
 
+    /// The text of the name.
     pub fn as_str(&self) -> &str
         ensures { result.now ≡ self.now }
     {
