@@ -25,7 +25,7 @@ fn when(holds: bool, ty: Ty) -> Option<Ty>
     if holds { Some(ty) } else { None }
 }
 
-/// Of a function, by its annotation and its body's type.
+/// The type of a function, by its annotation and its body's type.
 pub fn function_type(alloc: Global, param: &Ty, body: Ty) -> Result<Option<Ty>, Memory>
     ensures { IfOk result (λ found. found ≡ function_type param.now body) }
 {
@@ -38,7 +38,7 @@ pub fn function_type(alloc: Global, param: &Ty, body: Ty) -> Result<Option<Ty>, 
     Ok(when(holds, function))
 }
 
-/// Of an application, by its function's and its argument's types.
+/// The type of an application, by its function's and its argument's types.
 pub fn result_type(function: Ty, argument: &Ty) -> Option<Ty>
     ensures { result ≡ result_type function argument.now }
 {
@@ -48,21 +48,21 @@ pub fn result_type(function: Ty, argument: &Ty) -> Option<Ty>
     }
 }
 
-/// Of an operation, by its operands' types.
+/// The type of an operation, by its operands' types.
 pub fn operation_type(left: &Ty, right: &Ty) -> Option<Ty>
     ensures { result ≡ operation_type left.now right.now }
 {
     when(is_int(left) && is_int(right), Ty { form: TyForm::Int })
 }
 
-/// Of a conditional, by its condition's and its branches' types.
+/// The type of a conditional, by its condition's and its branches' types.
 pub fn branch_type(condition: &Ty, yes: Ty, no: &Ty) -> Option<Ty>
     ensures { result ≡ branch_type condition.now yes no.now }
 {
     when(is_int(condition) && is_same(&yes, no), yes)
 }
 
-/// Of a let, by the types of what it binds and of its body.
+/// The type of a let, by the types of what it binds and of its body.
 pub fn let_type(bound: &Ty, body: Ty) -> Option<Ty>
     ensures { result ≡ let_type bound.now body }
 {
@@ -106,7 +106,7 @@ fn folds(function: &Ty, base: &Ty, signal: &Ty) -> bool
     }
 }
 
-/// Of a foldp, by its function's, its base's and its signal's types.
+/// The type of a foldp, by its function's, its base's and its signal's types.
 pub fn foldp_type(alloc: Global, function: &Ty, base: Ty, signal: &Ty) -> Result<Option<Ty>, Memory>
     ensures { IfOk result (λ found. found ≡ foldp_type function.now base signal.now) }
 {
@@ -117,7 +117,7 @@ pub fn foldp_type(alloc: Global, function: &Ty, base: Ty, signal: &Ty) -> Result
     Ok(when(holds, folded))
 }
 
-/// Of an async, by its signal's type.
+/// The type of an async, by its signal's type.
 pub fn async_type(signal: Ty) -> Option<Ty>
     ensures { result ≡ async_type signal }
 {

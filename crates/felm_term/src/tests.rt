@@ -4,8 +4,8 @@ ghost use Rattle.felm_term.specs.CoreType as type;
 
 use super::{
     Event, Events, Function, InputDecl, InputTy, Inputs, Memory, Message, Name, Op, Scope, Term,
-    TermForm, Ty, TyForm, Value, apply_op, boxed, same_term, same_ty, same_value, substitute,
-    substitute_term, type_of,
+    TermForm, Terms, TermsForm, Ty, TyForm, Value, apply_op, boxed, same_term, same_ty, same_value,
+    substitute, substitute_term, type_of,
 };
 use std::alloc::Global;
 use std::test::Fail;
@@ -148,6 +148,64 @@ fn a_function_has_its_type(rt: HostRuntime) -> Result<(), Fail> {
     match type_of(rt.alloc(), &term, &Scope::Outside, &[], &[])? {
         Some(found) => assert!(&rt; same_ty(&found, &expected)),
         None => panic!(&rt; "no type"),
+    }
+    Ok(())
+}
+
+// A foldp of the second of two numbers over an input.
+fn latest(alloc: Global) -> Result<Term, Memory> {
+    let inner = boxed(alloc, identity(alloc)?)?;
+    let function = term(TermForm::Lam {
+        param: int(),
+        body: inner,
+    });
+    let function = boxed(alloc, function)?;
+    let base = boxed(alloc, term(TermForm::Int(0)))?;
+    let signal = boxed(alloc, term(TermForm::Input(0)))?;
+    Ok(term(TermForm::Foldp {
+        function,
+        base,
+        signal,
+    }))
+}
+
+fn signal_of_int(alloc: Global) -> Result<Ty, Memory> {
+    let of = boxed(alloc, int())?;
+    Ok(Ty {
+        form: TyForm::Signal(of),
+    })
+}
+
+#[test]
+fn a_foldp_has_its_type(rt: HostRuntime) -> Result<(), Fail> {
+    let term = latest(rt.alloc())?;
+    let expected = signal_of_int(rt.alloc())?;
+    let inputs = [signal_of_int(rt.alloc())?];
+    match type_of(rt.alloc(), &term, &Scope::Outside, &inputs, &[])? {
+        Some(found) => assert!(&rt; same_ty(&found, &expected)),
+        None => panic!(&rt; "no type"),
+    }
+    Ok(())
+}
+
+#[test]
+fn arguments_copy(rt: HostRuntime) -> Result<(), Fail> {
+    let rest = boxed(
+        rt.alloc(),
+        Terms {
+            form: TermsForm::End,
+        },
+    )?;
+    let arguments = Terms {
+        form: TermsForm::More {
+            first: term(TermForm::Input(0)),
+            rest,
+        },
+    };
+    let copy = arguments.copy(rt.alloc())?;
+    match &copy.form {
+        TermsForm::More { first, .. } => assert!(&rt; same_term(first, &term(TermForm::Input(0)))),
+        TermsForm::End => panic!(&rt; "no argument"),
     }
     Ok(())
 }
