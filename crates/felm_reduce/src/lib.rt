@@ -5,5 +5,7 @@ mod contract;
 mod frame;
 mod reduction;
 mod search;
+#[cfg(test)]
+mod tests;
 
 pub use reduction::{Reduced, reduce};
