@@ -17,7 +17,7 @@ abbrev pub plug : List Frame → CoreTerm → CoreTerm
 plug [] t = t
 plug (f ∷ frames) t = around f (plug frames t)
 
--- how many places are to be looked at before the next step, at most: in a term, in a frame, and in all frames
+-- how many places a search looks at, at most: in a term
 abbrev pub work : CoreTerm → ℕ
 work (App f a) = work f + 1
 work (Bin o a b) = work a + work b + 1
@@ -25,10 +25,12 @@ work (If c a b) = work c + 1
 work (Let a b) = work a + 1
 work _ = 1
 
+-- in what a frame holds
 abbrev pub work_in : Frame → ℕ
 work_in (frame.RightOperand o b) = work b
 work_in _ = 0
 
+-- in what all frames hold
 abbrev pub weight : List Frame → ℕ
 weight [] = 0
 weight (f ∷ frames) = work_in f + weight frames

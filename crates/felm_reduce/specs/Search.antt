@@ -17,6 +17,7 @@ use Rattle.felm_reduce.specs.declared.search.Found.TheVariants as found
 use Rattle.felm_reduce.specs.Frames.{plug, work, weight}
 use Rattle.felm_reduce.specs.Redex.{redex_term, IsReady}
 
+-- the head as a term
 abbrev pub head_term : Head → CoreTerm
 head_term head.Unit = core.Unit
 head_term (head.Int n) = core.Int n

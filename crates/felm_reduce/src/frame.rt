@@ -17,7 +17,7 @@ pub enum Frame {
     Body(Term),
 }
 
-/// Appends an item, as a frame inside the others.
+/// Appends an item, such as a frame inside the others.
 pub fn put<T: Drop>(items: &mut Vec<T>, item: T) -> Result<(), Memory>
     ensures { OnOk result (items.new.items ≡ items.old.items ++ item ∷ []) }
 {

@@ -19,7 +19,7 @@ pub enum Reduced {
 
 /// Reduces a closed term of a simple type to its value, in at most `budget` steps.
 ///
-/// A value as it stands takes no step. The time is proportional to the steps and to the sizes of the terms that they touch.
+/// A value as it stands takes no step, and is within any budget. The time is proportional to the steps and to the sizes of the terms that they touch.
 pub fn reduce(alloc: Global, term: Term, budget: u64) -> Result<Reduced, Memory>
     requires { HasSimpleType term }
     ensures outcome { IfOk result (IsOutcome budget term) }

@@ -6,6 +6,8 @@ use felm_term::{Memory, Op, Scope, Term, TermForm, Ty, TyForm, boxed, same_term,
 use std::alloc::Global;
 use std::process::Abort;
 
+// A term is built around its parts, of which each may lack memory.
+
 fn unit() -> Result<Term, Memory> {
     Ok(Term {
         form: TermForm::Unit,
@@ -88,7 +90,7 @@ fn bind(
     })
 }
 
-// The function that adds 1, or another number.
+// The function that adds a number to its own.
 fn adds(alloc: Global, number: i64) -> Result<Term, Memory> {
     function(alloc, operate(alloc, Op::Add, var(0), int(number)))
 }
