@@ -1,9 +1,7 @@
 -- The text of the run of a plan.
-use Rattle.std.proofs.Common.{◌≡◌, ℕ, suc, zero, ◌&&◌, Bool, true, false, List, [], ◌∷◌, length, take, IsTrue, refl, sym, ap, ◌∙◌}
+use Rattle.std.proofs.Common.{◌≡◌, ℕ, suc, zero, ◌&&◌, Bool, true, false, List, [], ◌∷◌, length, take, refl, sym, ap, ◌∙◌}
 use Rattle.std.specs.Prelude.{nat_lt}
 use Rattle.std.specs.List.{list_all}
-use Rattle.felm_term.specs.declared.event.Event.{Event}
-use Rattle.felm_term.specs.declared.input.InputDecl.{InputDecl}
 use Rattle.felm_meaning.specs.declared.plan.Plan.{Plan}
 use Rattle.felm_meaning.specs.declared.plan.History.{History}
 use Rattle.felm_meaning.specs.Events.{all_fit, all_of_inputs}

@@ -1,16 +1,14 @@
 -- How a run of two texts is one of the bytes under two names.
-use Rattle.std.proofs.Common.{◌≡◌, ℕ, ◌+◌, ◌<◌, ◌≤◌, ◌&&◌, Bool, true, false, List, [], ◌∷◌, ◌++◌, length, take, Option, Some, None, IfSome, refl, sym, ap, ◌∙◌, subst, arith, append-nil, inl, inr}
+use Rattle.std.proofs.Common.{◌≡◌, ℕ, ◌+◌, ◌<◌, ◌&&◌, Bool, true, false, List, length, take, Option, Some, None, IfSome, refl, sym, ap, ◌∙◌, subst, arith, append-nil, inl, inr}
 use Rattle.std.specs.Prelude.{nat_le, if◌then◌else◌}
 use Rattle.std.specs.Option.{option_map, option_and_then}
-use Rattle.std.specs.Io.KnownBytes.{Keeps, Appends}
 use Rattle.std.proofs.KnownBytes.{Keeps-refl}
 use Rattle.std.proofs.lemmas.List.{take_all, length-take-le}
 use Rattle.std.proofs.lemmas.Bool.Decides.{leb_tells}
-use Rattle.felm_io.specs.Causes.{Rose, AppendsPrefix}
+use Rattle.felm_io.specs.Causes.{AppendsPrefix}
 use Rattle.felm_meaning.specs.declared.plan.Plan.{Plan}
 use Rattle.felm_cli.specs.declared.status.Status.{Status}
 use Rattle.felm_cli.specs.declared.status.Status.TheVariants.{Success, Usage, Read, Write, Memory, NotBuilt}
-use Rattle.felm_cli.specs.declared.status.Which.{Which}
 use Rattle.felm_cli.specs.Words.{SyncOrder}
 use Rattle.felm_cli.specs.Program.{program_of}
 use Rattle.felm_cli.specs.Plans.{Planned, planned, planned_with, plan_of_texts}
@@ -25,7 +23,7 @@ texts_planned found plan out out' faults faults' short short' Success e put = ((
 texts_planned found plan out out' faults faults' short short' Usage e put = put
 texts_planned found plan out out' faults faults' short short' (Read which) e put = put
 texts_planned found plan out out' faults faults' short short' Write e put = ((planned plan, sym e, put.0), put.1)
-texts_planned found plan out out' faults faults' short short' Memory e put = subst (λ f. HasPrefixIfAny f out out') e put
+texts_planned found plan out out' faults faults' short short' Memory e put = (subst (λ f. HasPrefixIfAny f out out') e put.0, put.1)
 texts_planned found plan out out' faults faults' short short' NotBuilt e put = absurd put
 
 nothing_put : (out : Option (List ℕ)) (text : List ℕ) → AppendsPrefix out out text
@@ -105,6 +103,6 @@ sync_done bytes counts counts' order x y out out' faults faults' short short' (R
 sync_done bytes counts counts' order x y out out' faults faults' short short' Write p q t =
     (found (bytes order.program) (bytes order.script) x y (λ f. HasPrefix f out out') p q t.0, t.1)
 sync_done bytes counts counts' order x y out out' faults faults' short short' Memory p q t =
-    found (bytes order.program) (bytes order.script) x y (λ f. HasPrefixIfAny f out out') p q t
+    (found (bytes order.program) (bytes order.script) x y (λ f. HasPrefixIfAny f out out') p q t.0, t.1)
 sync_done bytes counts counts' order x y out out' faults faults' short short' NotBuilt p q t =
-    (found (bytes order.program) (bytes order.script) x y (λ f. f ≡ None) p q t.0, t.1)
+    (found (bytes order.program) (bytes order.script) x y (λ f. f ≡ None) p q t.0, t.1, t.2)

@@ -16,7 +16,7 @@ use Rattle.felm_term.specs.declared.value.Value.TheVariants as value
 use Rattle.felm_meaning.specs.Events.{has_type, fits, all_fit}
 use Rattle.felm_cli.specs.Fields.{filled_lines_of}
 use Rattle.felm_cli.specs.Program.{Named, Program, declared_of, declaration, is_declaration, shown_of, with_input, named_of, number_shown, settled_of, program_of}
-use Rattle.felm_cli.specs.Script.{event_with, event_of, events_of, limited, script_of}
+use Rattle.felm_cli.specs.Script.{event_of, events_of, limited, script_of}
 use Rattle.std.specs.Prelude.{nat_le}
 use Rattle.std.proofs.lemmas.List.{take_all}
 use borrow.Author.Tests.{leb-true}

@@ -1,6 +1,6 @@
 -- How a script's lines are read, one after another, and what its events fit.
-use Rattle.std.proofs.Common.{◌≡◌, ◌==◌, not, ℕ, suc, ◌+◌, ◌<◌, ◌≤◌, ◌&&◌, Bool, true, false, cond, List, [], ◌∷◌, ◌++◌, length, map, get_or, Option, Some, None, refl, sym, ap, ◌∙◌, arith, rules, tests, append_assoc, append-nil}
-use Rattle.std.specs.Prelude.{bytes_eq, position, if◌then◌else◌}
+use Rattle.std.proofs.Common.{◌≡◌, ◌==◌, not, ℕ, ◌<◌, ◌≤◌, Bool, true, false, List, [], ◌∷◌, ◌++◌, length, map, get_or, Option, Some, None, refl, sym, ap, ◌∙◌, arith, rules, tests, append_assoc, append-nil}
+use Rattle.std.specs.Prelude.{if◌then◌else◌}
 use Rattle.std.specs.Option.{option_map, option_and_then}
 use Rattle.std.proofs.lemmas.List.{nil_from_length}
 use Rattle.felm_term.specs.declared.event.Event.{Event}

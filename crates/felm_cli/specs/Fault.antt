@@ -1,5 +1,5 @@
 -- Fault lines.
-use Rattle.std.specs.Prelude.{ℕ, ◌++◌, ◌⊎◌, List, [], codes, Option, Some, None}
+use Rattle.std.specs.Prelude.{ℕ, ◌++◌, ◌⊎◌, List, [], codes, Option, Some}
 use Rattle.std.specs.Io.KnownBytes.{Appends}
 use Rattle.felm_io.specs.Causes.{Rose, AppendsPrefix}
 use Rattle.felm_cli.specs.declared.status.Status.{Status}

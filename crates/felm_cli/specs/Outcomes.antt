@@ -39,6 +39,16 @@ OnQuiet Write P = ⊤
 OnQuiet Memory P = ⊤
 OnQuiet NotBuilt P = P
 
+-- this holds where the status says that both texts were loaded, or none was to be
+abbrev pub OnLoaded : Status → Type 0 → Type 0
+OnLoaded (Read which) P = ⊤
+OnLoaded _ P = P
+
+-- this holds where the status says that no put failed
+abbrev pub OnUnfailed : Status → Type 0 → Type 0
+OnUnfailed Write P = ⊤
+OnUnfailed _ P = P
+
 -- the counts of a sink stay
 abbrev pub CountsStay : ℕ → ℕ → ℕ → ℕ → Type 0
 CountsStay faults faults' short short' = (faults' ≡ faults) × (short' ≡ short)
@@ -49,7 +59,7 @@ PutOutcome text out out' faults faults' short short' Success = Appends out out' 
 PutOutcome text out out' faults faults' short short' Usage = ⊥
 PutOutcome text out out' faults faults' short short' (Read which) = ⊥
 PutOutcome text out out' faults faults' short short' Write = AppendsPrefix out out' text × Rose faults faults'
-PutOutcome text out out' faults faults' short short' Memory = AppendsPrefix out out' text
+PutOutcome text out out' faults faults' short short' Memory = AppendsPrefix out out' text × (faults' ≡ faults)
 PutOutcome text out out' faults faults' short short' NotBuilt = ⊥
 
 -- how two texts that are loaded end
@@ -58,8 +68,8 @@ TextsOutcome found out out' faults faults' short short' Success = HasResult foun
 TextsOutcome found out out' faults faults' short short' Usage = ⊥
 TextsOutcome found out out' faults faults' short short' (Read which) = ⊥
 TextsOutcome found out out' faults faults' short short' Write = HasPrefix found out out' × Rose faults faults'
-TextsOutcome found out out' faults faults' short short' Memory = HasPrefixIfAny found out out'
-TextsOutcome found out out' faults faults' short short' NotBuilt = (found ≡ None) × Keeps out out'
+TextsOutcome found out out' faults faults' short short' Memory = HasPrefixIfAny found out out' × (faults' ≡ faults)
+TextsOutcome found out out' faults faults' short short' NotBuilt = (found ≡ None) × Keeps out out' × (faults' ≡ faults)
 
 -- how an order ends
 abbrev pub SyncOutcome : (List ℕ → Option (List ℕ)) → (List ℕ → ℕ) → (List ℕ → ℕ) → SyncOrder → Option (List ℕ) → Option (List ℕ) → ℕ → ℕ → ℕ → ℕ → Status → Type 0
@@ -67,15 +77,16 @@ SyncOutcome bytes counts counts' order out out' faults faults' short short' Succ
     OfTexts bytes order (λ found. HasResult found out out') × CountsStay faults faults' short short'
 SyncOutcome bytes counts counts' order out out' faults faults' short short' Usage = ⊥
 SyncOutcome bytes counts counts' order out out' faults faults' short short' (Read which) =
-    Rose (counts (file_of which order)) (counts' (file_of which order)) × Keeps out out'
+    Rose (counts (file_of which order)) (counts' (file_of which order)) × Keeps out out' × (faults' ≡ faults)
 SyncOutcome bytes counts counts' order out out' faults faults' short short' Write =
     OfTexts bytes order (λ found. HasPrefix found out out') × Rose faults faults'
-SyncOutcome bytes counts counts' order out out' faults faults' short short' Memory = OfTexts bytes order (λ found. HasPrefixIfAny found out out')
+SyncOutcome bytes counts counts' order out out' faults faults' short short' Memory =
+    OfTexts bytes order (λ found. HasPrefixIfAny found out out') × (faults' ≡ faults)
 SyncOutcome bytes counts counts' order out out' faults faults' short short' NotBuilt =
-    OfTexts bytes order (λ found. found ≡ None) × Keeps out out'
+    OfTexts bytes order (λ found. found ≡ None) × Keeps out out' × (faults' ≡ faults)
 
 -- how words end: as usage where they give no order, and else as their order
 abbrev pub WordsOutcome : (List ℕ → Option (List ℕ)) → (List ℕ → ℕ) → (List ℕ → ℕ) → Option SyncOrder → Option (List ℕ) → Option (List ℕ) → ℕ → ℕ → ℕ → ℕ → Status → Type 0
-WordsOutcome bytes counts counts' None out out' faults faults' short short' status = (status ≡ Usage) × Keeps out out'
+WordsOutcome bytes counts counts' None out out' faults faults' short short' status = (status ≡ Usage) × Keeps out out' × (faults' ≡ faults)
 WordsOutcome bytes counts counts' (Some order) out out' faults faults' short short' status =
     SyncOutcome bytes counts counts' order out out' faults faults' short short' status

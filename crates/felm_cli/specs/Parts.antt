@@ -1,6 +1,5 @@
 -- What the steps of reading a program find.
 use Rattle.std.specs.Prelude.{◌≡◌, ℕ, true, List, [], Some, None}
-use Rattle.felm_term.specs.declared.input.InputDecl.{InputDecl}
 use Rattle.felm_cli.specs.declared.declaration.Line.{Line}
 use Rattle.felm_cli.specs.declared.declaration.Line.TheVariants.{Blank, Declares, Shows, Other}
 use Rattle.felm_cli.specs.declared.program.Listed.{Listed}

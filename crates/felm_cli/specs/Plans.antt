@@ -1,5 +1,5 @@
 -- The plan of two texts.
-use Rattle.std.specs.Prelude.{ℕ, ◌&&◌, Bool, List, length, nat_le, Option, Some, None, if◌then◌else◌}
+use Rattle.std.specs.Prelude.{ℕ, ◌&&◌, Bool, List, length, nat_le, Option, None, if◌then◌else◌}
 use Rattle.std.specs.Option.{option_map, option_and_then}
 use Rattle.felm_term.specs.Inputs.{names_of}
 use Rattle.felm_term.specs.declared.event.Event.{Event}

@@ -1,5 +1,4 @@
 -- What contracts see of the values that this crate passes on.
-use Rattle.std.specs.Prelude.{ℕ, List, Option}
 use Rattle.felm_cli.specs.declared.words.SyncOrder.{SyncOrder as SyncWords}
 use Rattle.felm_cli.specs.declared.program.ReadProgram.{ReadProgram}
 use Rattle.felm_cli.specs.Words.{SyncOrder}

@@ -7,7 +7,7 @@ ghost use Rattle.felm_cli.specs.Words.{order_of};
 ghost use Rattle.felm_cli.specs.Fault.{fault_text, file_of, file_named, FaultPut};
 ghost use Rattle.felm_cli.specs.Plans.{planned, plan_of_texts, default_journal_limit};
 ghost use Rattle.felm_cli.specs.Text.{plan_text};
-ghost use Rattle.felm_cli.specs.Outcomes.{OfOrder, HasResult, HasPrefix, HasPrefixIfAny, CountsStay, OnQuiet, PutOutcome, TextsOutcome, SyncOutcome, WordsOutcome};
+ghost use Rattle.felm_cli.specs.Outcomes.{OfOrder, HasResult, HasPrefix, HasPrefixIfAny, CountsStay, OnLoaded, OnQuiet, OnUnfailed, PutOutcome, TextsOutcome, SyncOutcome, WordsOutcome};
 ghost use Rattle.felm_cli.specs.Views.{sync_of};
 
 use crate::fault::tell;
@@ -42,6 +42,9 @@ pub fn felm_once<F: Files, S: Sink, E: Sink>(
     ensures success { result ≡ Status.Success → OfOrder (F.bytes files.old) (order_of (map string_bytes words.now))
         (λ found. HasResult found (S.bytes out.old) (S.bytes out.new)) }
     ensures unrefused { result ≡ Status.Success → CountsStay (S.faults out.old) (S.faults out.new) (S.short out.old) (S.short out.new) }
+    // Every status but Read says that no load failed in this call, and every one but Write that no put of the result did.
+    ensures loaded { (name : List ℕ) → OnLoaded result (F.faults files.new name ≡ F.faults files.old name) }
+    ensures unfailed { OnUnfailed result (S.faults out.new ≡ S.faults out.old) }
     // Read comes only where a load of the file that the order names failed in this call.
     ensures read { (which : Which) → result ≡ Status.Read which → IfSome (order_of (map string_bytes words.now))
         (λ order. Rose (F.faults files.old (file_of which order)) (F.faults files.new (file_of which order))) }
@@ -97,6 +100,7 @@ fn sync<F: Files, S: Sink>(
 ) -> Status
     ensures outcome { SyncOutcome (F.bytes files.old) (F.faults files.old) (F.faults files.new) (sync_of order.entry)
         (S.bytes out.old) (S.bytes out.new) (S.faults out.old) (S.faults out.new) (S.short out.old) (S.short out.new) result }
+    ensures loaded { (name : List ℕ) → OnLoaded result (F.faults files.new name ≡ F.faults files.old name) }
     ensures files { (name : List ℕ) → F.bytes files.new name ≡ F.bytes files.old name }
     ensures counts { (name : List ℕ) → F.faults files.old name ≤ F.faults files.new name }
 {

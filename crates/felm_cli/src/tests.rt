@@ -1,5 +1,6 @@
 use crate::{Status, Which, felm_once, felm_over_sure};
 use felm_io::{MemoryFiles, MemorySink, SureFiles, SureSink};
+use felm_term::Limits;
 use std::alloc::{AllocError, Global};
 use std::test::Fail;
 
@@ -199,6 +200,16 @@ fn a_line_that_cannot_be_put_changes_no_status(rt: HostRuntime) -> Result<(), Fa
         );
     }
     Ok(())
+}
+
+#[test]
+fn limits_have_their_defaults(rt: HostRuntime) {
+    let limits = Limits::DEFAULT;
+    assert_eq!(rt; limits.workers, 2);
+    assert_eq!(rt; limits.turn_steps, 10_000);
+    assert_eq!(rt; limits.stage_steps, 100_000);
+    assert_eq!(rt; limits.edge, 16);
+    assert_eq!(rt; limits.journal, 1_048_576);
 }
 
 #[test]

@@ -1,7 +1,7 @@
 use Rattle.std.proofs.Common.{◌≡◌, Some, ap, sym, ◌∙◌}
 use Rattle.std.specs.Option.{option_map}
 use Rattle.felm_term.specs.Inputs.{names_of}
-use Rattle.felm_cli.specs.Program.{Program, program_of}
+use Rattle.felm_cli.specs.Program.{program_of}
 use Rattle.felm_cli.specs.Script.{script_of}
 use Rattle.felm_cli.specs.Views.{program_in}
 use Rattle.felm_cli.proofs.PlanFits.{script_fits}

@@ -1,4 +1,4 @@
-use Rattle.std.proofs.Common.{◌≡◌, map, sym, ◌∙◌}
+use Rattle.std.proofs.Common.{map, sym, ◌∙◌}
 use Rattle.std.specs.Option.{option_copied}
 use Rattle.felm_cli.proofs.Lines.{blank_line, declaring_line, showing_line, other_line}
 use Rattle.felm_cli.proofs.program.read_lines.Goals as goal

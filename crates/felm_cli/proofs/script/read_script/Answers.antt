@@ -1,4 +1,4 @@
-use Rattle.std.proofs.Common.{◌≡◌, ◌==◌, vec_len, length, true, false, not, map, ◌∙◌, sym, ap, arith}
+use Rattle.std.proofs.Common.{◌≡◌, ◌==◌, vec_len, length, true, false, not, map, ◌∙◌, ap, arith}
 use Rattle.std.proofs.lemmas.Bool.Decides.{nat_tests}
 use Rattle.felm_cli.specs.Fields.{is_filled}
 use Rattle.felm_cli.proofs.Scripts.{blank_line, event_line, all_read, filled_by_length}
