@@ -10,13 +10,13 @@ use Rattle.felm_term.specs.CoreTerm as term
 use Rattle.felm_term.specs.declared.op.Op.{Op}
 use Rattle.felm_term.specs.declared.op.Op.TheVariants as op
 
-abbrev code_type : CoreType → Gv
+abbrev pub code_type : CoreType → Gv
 code_type type.Unit = gnil
 code_type type.Int = gnum 0
 code_type (type.Arrow a b) = gcons gnil (gcons (code_type a) (code_type b))
 code_type (type.Signal a) = gcons (gnum 0) (code_type a)
 
-abbrev read_type : Gv → CoreType
+abbrev pub read_type : Gv → CoreType
 read_type gnil = type.Unit
 read_type (gnum n) = type.Int
 read_type (gcons gnil (gcons a b)) = type.Arrow (read_type a) (read_type b)
@@ -32,7 +32,7 @@ read_type-code_type (type.Signal a) = λ i. type.Signal (read_type-code_type a i
 abbrev pub coded_type : Coded CoreType
 coded_type = code_by Gv itself code_type read_type read_type-code_type
 
-abbrev code_op : Op → Gv
+abbrev pub code_op : Op → Gv
 code_op op.Add = gnum 0
 code_op op.Sub = gnum 1
 code_op op.Mul = gnum 2
@@ -53,10 +53,10 @@ op_numbered n =
     if n == 4 then op.Rem else (if n == 5 then op.Eq else (if n == 6 then op.Ne else (if n == 7 then op.Lt else (
     if n == 8 then op.Le else (if n == 9 then op.Gt else (if n == 10 then op.Ge else (if n == 11 then op.And else op.Or)))))))))))
 
-abbrev read_op : Gv → Op
+abbrev pub read_op : Gv → Op
 read_op g = op_numbered (num g)
 
-read_op-code_op : (o : Op) → read_op (code_op o) ≡ o
+pub read_op-code_op : (o : Op) → read_op (code_op o) ≡ o
 read_op-code_op op.Add = refl
 read_op-code_op op.Sub = refl
 read_op-code_op op.Mul = refl
@@ -71,16 +71,16 @@ read_op-code_op op.Ge = refl
 read_op-code_op op.And = refl
 read_op-code_op op.Or = refl
 
-abbrev code_int : ℤ → Gv
+abbrev pub code_int : ℤ → Gv
 code_int (pos n) = gnum n
 code_int (negsuc n) = gcons gnil (gnum n)
 
-abbrev read_int : Gv → ℤ
+abbrev pub read_int : Gv → ℤ
 read_int (gcons a (gnum n)) = negsuc n
 read_int (gnum n) = pos n
 read_int _ = pos 0
 
-read_int-code_int : (z : ℤ) → read_int (code_int z) ≡ z
+pub read_int-code_int : (z : ℤ) → read_int (code_int z) ≡ z
 read_int-code_int (pos n) = refl
 read_int-code_int (negsuc n) = refl
 

@@ -31,6 +31,18 @@ impl Message {
     }
 }
 
+impl Default for Message {
+    ghost use Rattle.felm_term.specs.declared.message.Message.TheVariants.{NoChange};
+    ghost use Rattle.felm_term.specs.declared.value.Value.TheVariants as value;
+
+    ghost is_default = { λ message. message ≡ NoChange value.Unit };
+
+    // A fixed vector of messages has it in its unused places.
+    fn default() -> Self {
+        Message::NoChange(Value::Unit)
+    }
+}
+
 impl fmt::Display for Message {
     ghost use Rattle.std.specs.Prelude.{Some};
     ghost use Rattle.felm_term.specs.Text.{message_text};
