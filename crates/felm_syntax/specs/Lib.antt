@@ -1,0 +1,10 @@
+pub mod Expression
+pub mod ExpressionView
+pub mod ExpressionFalls
+pub mod Codes
+pub mod InputMap
+pub mod Kinds
+pub mod Grammar
+pub mod Nesting
+pub mod Binders
+pub mod ProgramText
