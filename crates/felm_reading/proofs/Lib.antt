@@ -1,0 +1,15 @@
+pub mod Tokens
+pub mod Ranks
+pub mod Room
+pub mod Firsts
+pub mod TypeRoom
+pub mod ExprRoom
+pub mod TypeSound
+pub mod ExprSound
+pub mod Declared
+pub mod Programs
+pub mod Distinct
+pub mod Whole
+pub mod Sizes
+pub mod Stops
+pub mod TokenNames

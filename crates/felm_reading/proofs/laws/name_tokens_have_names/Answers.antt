@@ -1,0 +1,5 @@
+use Rattle.felm_reading.proofs.Whole.{token_names}
+use Rattle.felm_reading.proofs.laws.name_tokens_have_names.Goals as goal
+
+pub returns : goal.returns
+returns c = token_names
