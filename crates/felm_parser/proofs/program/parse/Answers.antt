@@ -1,0 +1,17 @@
+use Rattle.felm_parser.proofs.Outcome.{is_program, accepts, size, syntax, depth, twice, place}
+use Rattle.felm_parser.proofs.program.parse.Goals as goal
+
+pub returns : goal.returns
+returns c =
+    let text = c.args.text.now in
+    let ts = c.args.tokens.now in
+    let read = c.program.ensures in
+    record {
+      program = is_program text ts c.program.result read;
+      accepts = accepts text ts c.program.result read;
+      size = size text ts c.program.result read c.requires;
+      syntax = syntax text ts c.program.result read;
+      depth = depth text ts c.program.result read;
+      twice = twice text ts c.program.result read;
+      place = place text ts c.program.result read;
+    }
