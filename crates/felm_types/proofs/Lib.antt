@@ -1,0 +1,4 @@
+pub mod Lifts
+pub mod Typings
+pub mod Programs
+pub mod FirstFaults
