@@ -1,0 +1,9 @@
+pub mod FinishedPair
+pub mod Nodes
+pub mod GraphValue
+pub mod Layout
+pub mod Graphs
+pub mod Inside
+pub mod Layable
+pub mod Frames
+pub mod Pairs
