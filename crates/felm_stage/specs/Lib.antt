@@ -1,0 +1,4 @@
+pub mod Frames
+pub mod Redex
+pub mod Moves
+pub mod Outcome
