@@ -1,2 +1,12 @@
-pub mod Messages
-pub mod Journals
+pub mod Graphs
+pub mod Rows
+pub mod Fronts
+pub mod Legal
+pub mod Plain
+pub mod Causes
+pub mod Recursion
+pub mod Types
+pub mod Edges
+pub mod Calls
+pub mod Presets
+pub mod Fitting

@@ -1,5 +1,5 @@
 -- Events at the inputs of a graph.
-use Rattle.std.specs.Prelude.{Bool, true, false, List, length, nat_lt, slice_get}
+use Rattle.std.specs.Prelude.{Bool, true, false, List, slice_get}
 use Rattle.std.specs.List.{list_all}
 use Rattle.std.specs.Option.{option_map_or}
 use Rattle.felm_term.specs.declared.event.Event.{Event}
@@ -18,10 +18,6 @@ has_type ty value = false
 -- whether the source of an event is an input, and its value of that input's type
 abbrev pub fits : List InputDecl → Event → Bool
 fits inputs event = option_map_or (λ input. has_type input.ty event.value) (slice_get inputs event.source) false
-
--- whether the source of each event is an input
-abbrev pub all_of_inputs : List InputDecl → List Event → Bool
-all_of_inputs inputs events = list_all (λ event. nat_lt event.source (length inputs)) events
 
 -- whether each event fits
 abbrev pub all_fit : List InputDecl → List Event → Bool

@@ -1,4 +1,16 @@
-pub mod Events
+pub mod Nodes
+pub mod Step
 pub mod Meaning
 pub mod Journals
+pub mod Words
+pub mod Types
 pub mod Laws
+pub mod Instances
+pub mod Turns
+pub mod TurnInside
+pub mod Outcomes
+pub mod DoneInside
+pub mod Events
+pub mod Plans
+pub mod Values
+pub mod Presets

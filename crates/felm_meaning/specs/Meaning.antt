@@ -1,48 +1,135 @@
--- The synchronous meaning of a graph of inputs: what each input says at each position of a journal.
--- Positions count from 1, and position 0 is before the first event.
-use Rattle.std.specs.Prelude.{ℕ, suc, zero, ◌-◌, ◌==◌, List, [], ◌∷◌, length, slice_get, Some, None, Option, if◌then◌else◌}
-use Rattle.std.specs.Option.{option_map_or}
-use Rattle.felm_term.specs.declared.event.Event.{Event}
+-- The synchronous meaning: the value and the message of every node at every position of a journal.
+-- Positions count from 1; position 0 is before the first event. The messages of all nodes at a position are one row.
+use Rattle.std.specs.Prelude.{◌≡◌, ℕ, zero, suc, ◌==◌, if◌then◌else◌, List, [], ◌∷◌, ◌++◌, Option, Some, None, length, map, drop, slice_get, slice_index_or, ℤ}
+use Rattle.std.specs.Option.{option_map, option_and_then}
+use Rattle.felm_term.specs.Values.{value_of}
 use Rattle.felm_term.specs.declared.value.Value.{Value}
 use Rattle.felm_term.specs.declared.value.Value.TheVariants as value
 use Rattle.felm_term.specs.declared.message.Message.{Message}
 use Rattle.felm_term.specs.declared.message.Message.TheVariants.{Change, NoChange}
-use Rattle.felm_term.specs.Values.{value_of}
+use Rattle.felm_term.specs.declared.event.Event.{Event}
 use Rattle.felm_term.specs.declared.input.InputDecl.{InputDecl}
 use Rattle.felm_term.specs.declared.input.InputTy.{InputTy}
-use Rattle.felm_term.specs.declared.input.InputTy.TheVariants as type
+use Rattle.felm_term.specs.declared.input.InputTy.TheVariants as input
+use Rattle.felm_graph.specs.declared.node.NodeKind.{NodeKind}
+use Rattle.felm_graph.specs.declared.node.NodeKind.TheVariants as kind
+use Rattle.felm_graph.specs.GraphValue.{GraphValue}
+use Rattle.felm_graph.specs.Nodes.{is_source, arguments_of}
+use Rattle.felm_meaning.specs.declared.job.Job.{Job}
+use Rattle.felm_meaning.specs.Nodes.{job_of}
+use Rattle.felm_meaning.specs.Step.{step, call_value}
 
--- the value that an input declares
-abbrev pub declared_default : InputTy → InputDecl → Value
-declared_default type.Int input = value.Int input.default
-declared_default type.Unit input = value.Unit
+-- ---- parts that may be none
 
--- the default of an input's node; there is no node past the last input
-abbrev pub default_of : List InputDecl → ℕ → Value
-default_of inputs node = option_map_or (λ input. declared_default input.ty input) (slice_get inputs node) value.Unit
+-- all of them, or none where one of them is none
+abbrev pub all_of : {X : Type 0} → List (Option X) → Option (List X)
+all_of [] = Some []
+all_of (x ∷ more) = option_and_then (λ first. option_map (λ rest. first ∷ rest) (all_of more)) x
 
--- what a source says at an event, where it had this value before: Change of the event's value where the event is its own
-abbrev pub source_message : ℕ → Option Event → Value → Message
-source_message node None before = NoChange before
-source_message node (Some event) before = if event.source == node then Change event.value else NoChange before
+-- the item of a row at a node: none past the row's end
+abbrev pub at : {X : Type 0} → List (Option X) → ℕ → Option X
+at row k = slice_index_or row k None
 
--- the value of a source at a position: its default at 0, and then the value in its message there
-abbrev pub value_at : List InputDecl → List Event → ℕ → ℕ → Value
-value_at inputs journal node zero = default_of inputs node
-value_at inputs journal node (suc before) =
-    value_of (source_message node (slice_get journal before) (value_at inputs journal node before))
+-- ---- defaults
 
--- the message of a source at a position from 1 on
-abbrev pub message_at : List InputDecl → List Event → ℕ → ℕ → Message
-message_at inputs journal node position =
-    source_message node (slice_get journal (position - 1)) (value_at inputs journal node (position - 1))
+-- the value that an input declares, which is unit for an input of type unit
+abbrev pub first_value : InputTy → ℤ → Value
+first_value input.Int number = value.Int number
+first_value input.Unit number = value.Unit
 
--- the next so many messages of a source after a position
-abbrev pub messages_after : List InputDecl → List Event → ℕ → ℕ → ℕ → List Message
-messages_after inputs journal node position zero = []
-messages_after inputs journal node position (suc count) =
-    message_at inputs journal node (suc position) ∷ messages_after inputs journal node (suc position) count
+-- the same of a declaration
+abbrev pub declared_value : InputDecl → Value
+declared_value declared = first_value declared.ty declared.default
 
--- all messages of a source over a journal
-abbrev pub messages_of : List InputDecl → List Event → ℕ → List Message
-messages_of inputs journal node = messages_after inputs journal node 0 (length journal)
+-- the default of a node, by the defaults of the nodes that it names
+abbrev pub default_by : List InputDecl → ℕ → (ℕ → Option Value) → NodeKind → Option Value
+default_by inputs b default (kind.Input number) = option_map declared_value (slice_get inputs number)
+default_by inputs b default (kind.Lift f arguments) = option_and_then (λ values. call_value f values b) (all_of (map default arguments))
+default_by inputs b default (kind.Foldp f base argument) = Some base
+default_by inputs b default (kind.Async argument) = default argument
+
+-- the defaults of a graph's first n nodes
+unfoldable pub defaults_to : GraphValue → ℕ → ℕ → List (Option Value)
+defaults_to g b zero = []
+defaults_to g b (suc n) =
+    defaults_to g b n
+    ++ option_and_then (λ node. default_by g.inputs b (at (defaults_to g b n)) node.kind) (slice_get g.nodes n) ∷ []
+
+-- ---- messages
+
+-- NoChange of a value that is there
+abbrev pub no_change_of : Option Value → Option Message
+no_change_of value = option_map (λ v. NoChange v) value
+
+-- the value that a message carries, where it is there
+abbrev pub value_at : Option Message → Option Value
+value_at message = option_map value_of message
+
+-- the message of source k at an event, by the value that it had: Change of the event's value where the event is its own, else NoChange
+abbrev pub source_message : ℕ → Event → Option Value → Option Message
+source_message k e old = if e.source == k then Some (Change e.value) else no_change_of old
+
+-- the message of a node with a job, by the value that it had and its arguments' messages; none where one of these is none
+abbrev pub turn_message : Option Job → ℕ → Option Value → Option (List Message) → Option Message
+turn_message job b old messages =
+    option_and_then (λ j. option_and_then (λ v. option_and_then (λ ms. step j v ms b) messages) old) job
+
+-- the message of node k at an event, by the row before, and this row's messages of the nodes before k
+unfoldable pub message_of : GraphValue → ℕ → List (Option Message) → Event → List (Option Message) → ℕ → Option Message
+message_of g b old e new k =
+    if is_source g.nodes k then source_message k e (value_at (at old k))
+    else turn_message (job_of g.nodes k) b (value_at (at old k)) (all_of (map (at new) (arguments_of g.nodes k)))
+
+-- the messages of the first n nodes at an event, by the row before
+unfoldable pub row_to : GraphValue → ℕ → List (Option Message) → Event → ℕ → List (Option Message)
+row_to g b old e zero = []
+row_to g b old e (suc n) = row_to g b old e n ++ message_of g b old e (row_to g b old e n) n ∷ []
+
+-- the row after an event, if there is one: past the journal's end a row is empty
+abbrev pub next_row : GraphValue → ℕ → List (Option Message) → Option Event → List (Option Message)
+next_row g b old None = []
+next_row g b old (Some e) = row_to g b old e (length g.nodes)
+
+-- the row at a position: NoChange of the defaults at 0, then a row for each event
+unfoldable pub row : GraphValue → ℕ → List Event → ℕ → List (Option Message)
+row g b j zero = map no_change_of (defaults_to g b (length g.nodes))
+row g b j (suc p) = next_row g b (row g b j p) (slice_get j p)
+
+-- ---- the meaning, and what is read off it
+
+-- the message of node k at position p, or none; at position 0 it is NoChange of the default
+unfoldable pub msg : GraphValue → ℕ → List Event → ℕ → ℕ → Option Message
+msg g b j k p = at (row g b j p) k
+
+-- the value of node k at position p, or none
+unfoldable pub val : GraphValue → ℕ → List Event → ℕ → ℕ → Option Value
+val g b j k p = value_at (msg g b j k p)
+
+-- it isn't none
+abbrev pub IsThere : {X : Type 0} → Option X → Type 0
+IsThere {X} part = (x : X) × (part ≡ Some x)
+
+-- the value of a message that is Change
+abbrev pub changed_in : Option Message → List Value
+changed_in None = []
+changed_in (Some (Change v)) = v ∷ []
+changed_in (Some (NoChange v)) = []
+
+-- the values of the Changes of node k at positions 1 to p, in order
+unfoldable pub changes : GraphValue → ℕ → List Event → ℕ → ℕ → List Value
+changes g b j k zero = []
+changes g b j k (suc p) = changes g b j k p ++ changed_in (msg g b j k (suc p))
+
+-- a message that is there
+abbrev pub sent_in : Option Message → List Message
+sent_in None = []
+sent_in (Some m) = m ∷ []
+
+-- the messages of node k at positions 1 to w, in order
+unfoldable pub sends : GraphValue → ℕ → List Event → ℕ → ℕ → List Message
+sends g b j k zero = []
+sends g b j k (suc w) = sends g b j k w ++ sent_in (msg g b j k (suc w))
+
+-- the contents of an edge: the messages of node k behind position r, up to position w
+abbrev pub edge : GraphValue → ℕ → List Event → ℕ → ℕ → ℕ → List Message
+edge g b j k r w = drop r (sends g b j k w)

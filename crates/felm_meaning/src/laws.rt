@@ -1,17 +1,98 @@
-//! Laws of the definitions: functions without a body, each for the sake of its contract.
-ghost use Rattle.felm_meaning.specs.Laws.{MessagesStandAtTheirPositions, PlainJournalIsTheScript, PlainJournalIsComplete};
+//! Laws of the meaning and of journals. Each function's contract states a law; its body does nothing.
+ghost use Rattle.felm_meaning.specs.Instances.{AreRuns, runs};
+ghost use Rattle.felm_meaning.specs.Laws.{CallsAreByReduction, MeaningIsTheRecursion, OnlyTheMeaningIs, PrefixesAreEnough, NoneFollowsNone, ValuesHaveTheirTypes, TurnsFit, EdgesHoldTheMessages, CausesComeBefore, EventsFollowChanges, ScriptsFit, LegalJournalsFit, NextIsTheLeast, PlainJournalGrows, OnlyThePlainJournalDoes, PlainJournalIsLegal, WhatEndsIsComplete, WithoutAsyncsTheScriptIs};
 
-/// The messages of an input over a journal are as many as its events, and each is that of its position.
-pub fn messages_stand_at_their_positions()
-    ensures { MessagesStandAtTheirPositions }
+/// The call that the meaning computes is the one by reduction.
+pub fn calls_are_by_reduction()
+    ensures { CallsAreByReduction }
 {}
 
-/// A script within the limit is its own plain journal, and a longer one's is its front of that length.
-pub fn plain_journal_is_the_script()
-    ensures { PlainJournalIsTheScript }
+/// The meaning meets the recursion on position and node.
+pub fn meaning_is_the_recursion()
+    ensures { MeaningIsTheRecursion }
 {}
 
-/// The plain journal of a script within the limit is complete.
-pub fn plain_journal_is_complete()
-    ensures { PlainJournalIsComplete }
+/// Nothing else meets it.
+pub fn only_the_meaning_is()
+    ensures { OnlyTheMeaningIs }
+{}
+
+/// The meaning at a position reads no later event.
+pub fn prefixes_are_enough()
+    ensures { PrefixesAreEnough }
+{}
+
+/// Behind a message that is none, a node has no other one.
+pub fn none_follows_none()
+    ensures { NoneFollowsNone }
+{}
+
+/// Each value of the meaning has its node's type.
+pub fn values_have_their_types()
+    ensures { ValuesHaveTheirTypes }
+{}
+
+/// A turn of the meaning may be made and computed.
+pub fn turns_fit()
+    ensures { TurnsFit }
+{}
+
+/// An edge has one message a position.
+pub fn edges_hold_the_messages()
+    ensures { EdgesHoldTheMessages }
+{}
+
+/// Each event of an async in a legal journal has its cause at an earlier position.
+pub fn causes_come_before()
+    ensures { CausesComeBefore }
+{}
+
+/// No async has more events than its inner signal had changes.
+pub fn events_follow_changes()
+    ensures { EventsFollowChanges }
+{}
+
+/// The events of a script that fits have their nodes' types.
+pub fn scripts_fit()
+    ensures { ScriptsFit }
+{}
+
+/// So have the events of a legal journal.
+pub fn legal_journals_fit()
+    ensures { LegalJournalsFit }
+{}
+
+/// The next event is that of the least async that waits, else the script's next.
+pub fn next_is_the_least()
+    ensures { NextIsTheLeast }
+{}
+
+/// The plain journal grows while it can, and no longer.
+pub fn plain_journal_grows()
+    ensures { PlainJournalGrows }
+{}
+
+/// No other journal does.
+pub fn only_the_plain_journal_does()
+    ensures { OnlyThePlainJournalDoes }
+{}
+
+/// The plain journal is legal.
+pub fn plain_journal_is_legal()
+    ensures { PlainJournalIsLegal }
+{}
+
+/// A legal journal with every message and no next event is complete.
+pub fn what_ends_is_complete()
+    ensures { WhatEndsIsComplete }
+{}
+
+/// Without asyncs the one complete journal is the script.
+pub fn without_asyncs_the_script_is()
+    ensures { WithoutAsyncsTheScriptIs }
+{}
+
+/// The meaning and the plain journals of small plans are those that were worked out by hand.
+pub fn runs_worked_by_hand()
+    ensures { AreRuns runs }
 {}

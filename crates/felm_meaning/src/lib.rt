@@ -1,12 +1,34 @@
-//! Plans, and the synchronous meaning: what every signal is at every position of a journal.
-//!
-//! So far a graph is one node per input, and one of the inputs is shown.
+//! Plans, turns and the synchronous meaning: what every signal is at every position of a journal.
 #![tactic(auto)]
 
+mod call;
+mod copies;
+mod done;
+mod equality;
+mod history;
+mod job;
 mod laws;
+mod outcome;
 mod plan;
+mod preset;
+#[cfg(test)]
+mod tests;
+mod turn;
+mod turn_inputs;
 
+pub use done::{Done, compute};
+pub use equality::same_plan;
+pub use history::{History, RunEnd};
+pub use job::{Job, job_of};
 pub use laws::{
-    messages_stand_at_their_positions, plain_journal_is_complete, plain_journal_is_the_script,
+    calls_are_by_reduction, causes_come_before, edges_hold_the_messages, events_follow_changes,
+    legal_journals_fit, meaning_is_the_recursion, next_is_the_least, none_follows_none,
+    only_the_meaning_is, only_the_plain_journal_does, plain_journal_grows, plain_journal_is_legal,
+    prefixes_are_enough, runs_worked_by_hand, scripts_fit, turns_fit, values_have_their_types,
+    what_ends_is_complete, without_asyncs_the_script_is,
 };
-pub use plan::{History, Plan};
+pub use outcome::Outcome;
+pub use plan::Plan;
+pub use preset::{Preset, Values, defaults};
+pub use turn::Turn;
+pub use turn_inputs::TurnInputs;

@@ -1,30 +1,48 @@
-ghost use Rattle.std.specs.Prelude.{◌<◌, length, IsTrue};
+ghost use Rattle.std.specs.Prelude.{◌≡◌, IsTrue, IfOk};
 ghost use Rattle.felm_meaning.specs.Events.{all_fit};
 
-use felm_term::{Events, Inputs, Limits, Messages, Script, Value};
+use crate::copies::{copy_events, copy_graph};
+use felm_graph::Graph;
+use felm_term::{Limits, Memory, Script};
+use std::alloc::Global;
 
-/// What is run: a graph of one node per input, the node that is shown, and a script of events.
+/// What is run: a graph, the events that the outside sends to its inputs, and the limits of the run.
 #[derive(Debug, Drop)]
 pub struct Plan {
-    /// The declared inputs, which are the nodes.
-    pub inputs: Inputs,
-    /// The number of the input that is shown.
-    pub main: u32,
-    /// The events that the outside sends.
+    pub graph: Graph,
+    /// Each of its events names an input, and has a value of that input's type.
     pub script: Script,
-    /// The bounds of the run.
     pub limits: Limits,
-    pub ghost main_in_range: { main < length inputs.items },
-    pub ghost events_fit: { IsTrue (all_fit inputs.items script.items) },
+    pub ghost events_fit: { IsTrue (all_fit graph.inputs script.items) },
 }
 
-/// What a run was: its events, and what the shown signal said.
-#[derive(Debug, Drop)]
-pub struct History {
-    /// The value of the shown signal before the first event.
-    pub default: Value,
-    /// The events that entered the graph.
-    pub journal: Events,
-    /// The messages of the shown signal, one an event.
-    pub outputs: Messages,
+impl Plan {
+    ghost use Rattle.felm_meaning.specs.Plans.{SamePlan};
+
+    /// The plan of these parts.
+    pub fn make(graph: Graph, script: Script, limits: Limits) -> Plan
+        requires { IsTrue (all_fit graph.inputs script.items) }
+        ensures graph { result.graph ≡ graph }
+        ensures script { result.script ≡ script }
+        ensures limits { result.limits ≡ limits }
+    {
+        Plan {
+            graph,
+            script,
+            limits,
+        }
+    }
+
+    /// An equal plan. Its functions share their terms with this one's.
+    pub fn copy(&self, alloc: Global) -> Result<Plan, Memory>
+        ensures { IfOk result (SamePlan self.now) }
+    {
+        let graph = copy_graph(alloc, &self.graph)?;
+        let script = copy_events(alloc, self.script.as_slice())?;
+        Ok(Plan {
+            graph,
+            script,
+            limits: self.limits,
+        })
+    }
 }
