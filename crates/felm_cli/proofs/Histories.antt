@@ -2,13 +2,13 @@
 use Rattle.std.proofs.Common.{◌≡◌, ℕ, suc, zero, ◌&&◌, Bool, true, false, List, [], ◌∷◌, length, take, refl, sym, ap, ◌∙◌}
 use Rattle.std.specs.Prelude.{nat_lt}
 use Rattle.std.specs.List.{list_all}
-use Rattle.felm_meaning.specs.declared.plan.Plan.{Plan}
-use Rattle.felm_meaning.specs.declared.plan.History.{History}
-use Rattle.felm_meaning.specs.Events.{all_fit, all_of_inputs}
-use Rattle.felm_meaning.specs.Meaning.{messages_of, default_of}
-use Rattle.felm_meaning.specs.Journals.{plain_journal}
-use Rattle.felm_meaning.proofs.Messages.{length-messages_after}
-use Rattle.felm_meaning.proofs.Journals.{plain_is_front, fit_of_inputs}
+use Rattle.felm_sources.specs.declared.plan.Plan.{Plan}
+use Rattle.felm_sources.specs.declared.plan.History.{History}
+use Rattle.felm_sources.specs.Events.{all_fit, all_of_inputs}
+use Rattle.felm_sources.specs.Meaning.{messages_of, default_of}
+use Rattle.felm_sources.specs.Journals.{plain_journal}
+use Rattle.felm_sources.proofs.Messages.{length-messages_after}
+use Rattle.felm_sources.proofs.Journals.{plain_is_front, fit_of_inputs}
 use Rattle.felm_cli.specs.History.{IsRun}
 use Rattle.felm_cli.specs.Plans.{planned}
 use Rattle.felm_cli.specs.Text.{history_text, plan_text}

@@ -1,11 +1,11 @@
 pub mod Cuts
-pub mod Text
-pub mod Lines
 pub mod NameTables
 pub mod Scripts
 pub mod Results
 pub mod Runs
 pub mod PlanFits
+pub mod Faults
 pub mod Prefixes
+pub mod Pieces
 pub mod Histories
 pub mod Outcomes

@@ -7,7 +7,7 @@ use Rattle.std.proofs.lemmas.List.{length-map, map-append, take_more, take-appen
 use Rattle.indexmap.specs.IndexSet.{insert_key}
 use Rattle.felm_term.specs.declared.input.InputDecl.{InputDecl}
 use Rattle.felm_term.specs.Inputs.{names_of}
-use Rattle.felm_cli.specs.Program.{are_distinct}
+use Rattle.felm_cli.specs.Names.{are_distinct}
 
 prefix_len-map : {X Y : Type 0} (p : Y → Bool) (f : X → Y) (xs : List X) → prefix_len p (map f xs) ≡ prefix_len (λ x. p (f x)) xs
 prefix_len-map p f [] = refl

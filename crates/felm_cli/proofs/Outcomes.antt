@@ -1,48 +1,17 @@
--- How a run of two texts is one of the bytes under two names.
-use Rattle.std.proofs.Common.{◌≡◌, ℕ, ◌+◌, ◌<◌, ◌&&◌, Bool, true, false, List, length, take, Option, Some, None, IfSome, refl, sym, ap, ◌∙◌, subst, arith, append-nil, inl, inr}
-use Rattle.std.specs.Prelude.{nat_le, if◌then◌else◌}
-use Rattle.std.specs.Option.{option_map, option_and_then}
+-- How an order ends, by how its parts do.
+use Rattle.std.proofs.Common.{◌≡◌, ℕ, ◌+◌, ◌<◌, ◌≤◌, true, false, List, length, take, Option, Some, None, IfSome, refl, sym, ap, ◌∙◌, subst, arith, inl, inr}
+use Rattle.std.specs.Prelude.{Err, nat_le}
+use Rattle.std.specs.Io.KnownBytes.{Appends}
 use Rattle.std.proofs.KnownBytes.{Keeps-refl}
 use Rattle.std.proofs.lemmas.List.{take_all, length-take-le}
 use Rattle.std.proofs.lemmas.Bool.Decides.{leb_tells}
 use Rattle.felm_io.specs.Causes.{AppendsPrefix}
-use Rattle.felm_meaning.specs.declared.plan.Plan.{Plan}
 use Rattle.felm_cli.specs.declared.status.Status.{Status}
-use Rattle.felm_cli.specs.declared.status.Status.TheVariants.{Success, Usage, Read, Write, Memory, NotBuilt}
+use Rattle.felm_cli.specs.declared.status.Status.TheVariants.{Success, Usage, Read, TooLong, Syntax, Typing, Write, Memory, NotBuilt}
 use Rattle.felm_cli.specs.Words.{SyncOrder}
-use Rattle.felm_cli.specs.Program.{program_of}
-use Rattle.felm_cli.specs.Plans.{Planned, planned, planned_with, plan_of_texts}
+use Rattle.felm_cli.specs.Plans.{Planned, is_short, HavePlan, AreUnbuilt, IsSyntaxFault, IsTypingFault, HavePlanOrFault}
 use Rattle.felm_cli.specs.Text.{plan_text}
-use Rattle.felm_cli.specs.Outcomes.{OfTexts, HasResult, HasPrefix, HasPrefixIfAny, PutOutcome, TextsOutcome, SyncOutcome}
-
--- a text that is put is that of the plan
-pub texts_planned : (found : Option Planned) (plan : Plan) (out out' : Option (List ℕ)) (faults faults' short short' : ℕ) (status : Status)
-    → option_map planned (Some plan) ≡ found → PutOutcome (plan_text (planned plan)) out out' faults faults' short short' status
-    → TextsOutcome found out out' faults faults' short short' status
-texts_planned found plan out out' faults faults' short short' Success e put = ((planned plan, sym e, put.0), put.1)
-texts_planned found plan out out' faults faults' short short' Usage e put = put
-texts_planned found plan out out' faults faults' short short' (Read which) e put = put
-texts_planned found plan out out' faults faults' short short' Write e put = ((planned plan, sym e, put.0), put.1)
-texts_planned found plan out out' faults faults' short short' Memory e put = (subst (λ f. HasPrefixIfAny f out out') e put.0, put.1)
-texts_planned found plan out out' faults faults' short short' NotBuilt e put = absurd put
-
-nothing_put : (out : Option (List ℕ)) (text : List ℕ) → AppendsPrefix out out text
-nothing_put None text = tt
-nothing_put (Some xs) text = (0, omega arith, sym (append-nil xs))
-
-untouched : (found : Option Planned) (out : Option (List ℕ)) → HasPrefixIfAny found out out
-untouched None out = Keeps-refl out
-untouched (Some plan) out = nothing_put out (plan_text plan)
-
-any_texts : (u v : Option (List ℕ)) (P : List ℕ → List ℕ → Type 0) → ((a b : List ℕ) → P a b) → IfSome u (λ a. IfSome v (λ b. P a b))
-any_texts None v P h = tt
-any_texts (Some a) None P h = tt
-any_texts (Some a) (Some b) P h = h a b
-
--- want of memory before the texts are read
-pub memory_before : (bytes : List ℕ → Option (List ℕ)) (order : SyncOrder) (out : Option (List ℕ)) → OfTexts bytes order (λ found. HasPrefixIfAny found out out)
-memory_before bytes order out =
-    any_texts (bytes order.program) (bytes order.script) (λ a b. HasPrefixIfAny (plan_of_texts a b) out out) (λ a b. untouched (plan_of_texts a b) out)
+use Rattle.felm_cli.specs.Outcomes.{OfShort, HaveResult, HavePrefix, NoResult, PutOutcome, SyncOutcome}
 
 past : (n m : ℕ) → m < n → nat_le n m ≡ false
 past n m h = elim (leb_tells n m) as (λ _. nat_le n m ≡ false) [ inl p ↦ absurd (omega arith) | inr p ↦ p.0 ]
@@ -54,55 +23,91 @@ length_cut n xs = elim (leb_tells (length xs) n) as (λ _. nat_le (length (take 
   | inr p ↦ past _ _ (omega (arith, length-take-le (n + 1) xs (omega arith))) ∙ sym p.0
 ]
 
-long_none : (n : ℕ) (xs : List ℕ) (T : Type 0) (f : List ℕ → Option T)
-    → (if nat_le (length xs) n then f (take (n + 1) xs) else None) ≡ (if nat_le (length xs) n then f xs else None)
-long_none n xs T f = elim (leb_tells (length xs) n) as (λ _. (if nat_le (length xs) n then f (take (n + 1) xs) else None) ≡ (if nat_le (length xs) n then f xs else None)) [
-  | inl p ↦ ap (λ ys. if nat_le (length xs) n then f ys else None) (take_all (n + 1) xs (omega arith))
-  | inr p ↦ ap (λ b. if b then f (take (n + 1) xs) else None) p.0 ∙ sym (ap (λ b. if b then f xs else None) p.0)
-]
+fits : (n m : ℕ) → n ≤ m → nat_le n m ≡ true
+fits n m h = elim (leb_tells n m) as (λ _. nat_le n m ≡ true) [ inl p ↦ p.0 | inr p ↦ absurd (omega arith) ]
 
-both : (p q : Bool) (T : Type 0) (x : Option T) → (if p && q then x else None) ≡ (if p then (if q then x else None) else None)
-both true q T x = refl
-both false q T x = refl
+within : (n m : ℕ) → nat_le n m ≡ true → n ≤ m
+within n m h = elim (leb_tells n m) as (λ _. n ≤ m) [ inl p ↦ omega arith | inr p ↦ cc ]
 
-cut_at : (n : ℕ) (T : Type 0) (f : List ℕ → List ℕ → Option T) (a b : List ℕ)
-    → (if nat_le (length (take (n + 1) a)) n && nat_le (length (take (n + 1) b)) n then f (take (n + 1) a) (take (n + 1) b) else None)
-    ≡ (if nat_le (length a) n && nat_le (length b) n then f a b else None)
-cut_at n T f a b =
-    let x = take (n + 1) a in
-    let y = take (n + 1) b in
-    ap (λ p. if p && nat_le (length y) n then f x y else None) (length_cut n a)
-    ∙ ap (λ q. if nat_le (length a) n && q then f x y else None) (length_cut n b)
-    ∙ both (nat_le (length a) n) (nat_le (length b) n) T (f x y)
-    ∙ long_none n a T (λ z. if nat_le (length b) n then f z y else None)
-    ∙ ap (λ r. if nat_le (length a) n then r else None) (long_none n b T (λ z. f a z))
-    ∙ sym (both (nat_le (length a) n) (nat_le (length b) n) T (f a b))
+-- a text that was loaded up to one byte past the greatest length, and isn't too long, is whole
+pub loaded_whole : (known : Option (List ℕ)) (text : List ℕ) → IfSome known (λ all. text ≡ take 16777217 all) → length text ≤ 16777216
+    → IfSome known (λ all. (text ≡ all) × (is_short all ≡ true))
+loaded_whole None text is few = tt
+loaded_whole (Some all) text is few =
+    let short : is_short all ≡ true = sym (length_cut 16777216 all) ∙ ap (λ xs. nat_le (length xs) 16777216) (sym is) ∙ fits (length text) 16777216 few in
+    (is ∙ take_all 16777217 all (omega (arith, within (length all) 16777216 short)), short)
 
--- a load that cuts a text one byte past the greatest length cuts off nothing that a plan could come of
-plan_cut : (a b : List ℕ) → plan_of_texts (take 16777217 a) (take 16777217 b) ≡ plan_of_texts a b
-plan_cut a b = cut_at 16777216 Planned (λ program script. option_and_then (λ read. planned_with read script) (program_of program)) a b
+-- and one that is too long was so
+pub loaded_cut : (known : Option (List ℕ)) (text : List ℕ) → IfSome known (λ all. text ≡ take 16777217 all) → 16777216 < length text
+    → IfSome known (λ all. is_short all ≡ false)
+loaded_cut None text is many = tt
+loaded_cut (Some all) text is many =
+    sym (length_cut 16777216 all) ∙ ap (λ xs. nat_le (length xs) 16777216) (sym is) ∙ past (length text) 16777216 many
 
--- what holds of the plan of two loaded texts holds of that of the bytes under their names
-found : (u v : Option (List ℕ)) (x y : List ℕ) (P : Option Planned → Type 0)
-    → IfSome u (λ all. x ≡ take 16777217 all) → IfSome v (λ all. y ≡ take 16777217 all) → P (plan_of_texts x y)
-    → IfSome u (λ a. IfSome v (λ b. P (plan_of_texts a b)))
-found None v x y P p q t = tt
-found (Some a) None x y P p q t = tt
-found (Some a) (Some b) x y P p q t =
-    subst P (ap (λ z. plan_of_texts z y) p ∙ ap (plan_of_texts (take 16777217 a)) q ∙ plan_cut a b) t
+-- what holds of two loaded texts holds of the bytes under their names
+of_loaded : (u v : Option (List ℕ)) (x y : List ℕ) (P : List ℕ → List ℕ → Type 0)
+    → IfSome u (λ all. (x ≡ all) × (is_short all ≡ true)) → IfSome v (λ all. (y ≡ all) × (is_short all ≡ true)) → P x y
+    → IfSome u (λ a. IfSome v (λ b. (is_short a ≡ true) × (is_short b ≡ true) × P a b))
+of_loaded None v x y P p q h = tt
+of_loaded (Some a) None x y P p q h = tt
+of_loaded (Some a) (Some b) x y P p q h = (p.1, q.1, subst (λ z. P z b) p.0 (subst (P x) q.0 h))
 
-pub sync_done : (bytes : List ℕ → Option (List ℕ)) (counts counts' : List ℕ → ℕ) (order : SyncOrder) (x y : List ℕ) (out out' : Option (List ℕ))
-    (faults faults' short short' : ℕ) (status : Status)
-    → IfSome (bytes order.program) (λ all. x ≡ take 16777217 all) → IfSome (bytes order.script) (λ all. y ≡ take 16777217 all)
-    → TextsOutcome (plan_of_texts x y) out out' faults faults' short short' status
-    → SyncOutcome bytes counts counts' order out out' faults faults' short short' status
-sync_done bytes counts counts' order x y out out' faults faults' short short' Success p q t =
-    (found (bytes order.program) (bytes order.script) x y (λ f. HasResult f out out') p q t.0, t.1)
-sync_done bytes counts counts' order x y out out' faults faults' short short' Usage p q t = t
-sync_done bytes counts counts' order x y out out' faults faults' short short' (Read which) p q t = absurd t
-sync_done bytes counts counts' order x y out out' faults faults' short short' Write p q t =
-    (found (bytes order.program) (bytes order.script) x y (λ f. HasPrefix f out out') p q t.0, t.1)
-sync_done bytes counts counts' order x y out out' faults faults' short short' Memory p q t =
-    (found (bytes order.program) (bytes order.script) x y (λ f. HasPrefixIfAny f out out') p q t.0, t.1)
-sync_done bytes counts counts' order x y out out' faults faults' short short' NotBuilt p q t =
-    (found (bytes order.program) (bytes order.script) x y (λ f. f ≡ None) p q t.0, t.1, t.2)
+-- what follows of all texts follows of those
+further : (u v : Option (List ℕ)) (P Q : List ℕ → List ℕ → Type 0) → ((a b : List ℕ) → P a b → Q a b)
+    → IfSome u (λ a. IfSome v (λ b. (is_short a ≡ true) × (is_short b ≡ true) × P a b)) → IfSome u (λ a. IfSome v (λ b. (is_short a ≡ true) × (is_short b ≡ true) × Q a b))
+further None v P Q f h = tt
+further (Some a) None P Q f h = tt
+further (Some a) (Some b) P Q f h = (h.0, h.1, f a b h.2)
+
+-- two texts have a plan, and this is its result text
+abbrev HaveText : List ℕ → List ℕ → List ℕ → Type 0
+HaveText text program script = (plan : Planned) × HavePlan program script plan × (text ≡ plan_text plan)
+
+module _ (bytes : List ℕ → Option (List ℕ)) (counts counts' : List ℕ → ℕ) (order : SyncOrder) where
+  -- why two loaded texts have no result
+  pub no_result : (x y : List ℕ) (status : Status) → IfSome (bytes order.program) (λ all. (x ≡ all) × (is_short all ≡ true))
+      → IfSome (bytes order.script) (λ all. (y ≡ all) × (is_short all ≡ true)) → HavePlanOrFault x y (Err status) → NoResult bytes counts counts' order status
+  no_result x y Success p q h = h
+  no_result x y Usage p q h = h
+  no_result x y (Read which) p q h = absurd h
+  no_result x y (TooLong which) p q h = absurd h
+  no_result x y (Syntax cause at) p q h = of_loaded (bytes order.program) (bytes order.script) x y (λ a b. IsSyntaxFault a cause at) p q h
+  no_result x y (Typing cause at) p q h = of_loaded (bytes order.program) (bytes order.script) x y (λ a b. IsTypingFault a cause at) p q h
+  no_result x y Write p q h = h
+  no_result x y Memory p q h = tt
+  no_result x y NotBuilt p q h = of_loaded (bytes order.program) (bytes order.script) x y AreUnbuilt p q h
+
+  -- the result text of two loaded texts
+  pub result_of_texts : (x y text : List ℕ) (plan : Planned) → IfSome (bytes order.program) (λ all. (x ≡ all) × (is_short all ≡ true))
+      → IfSome (bytes order.script) (λ all. (y ≡ all) × (is_short all ≡ true)) → HavePlan x y plan → text ≡ plan_text plan → OfShort bytes order (HaveText text)
+  result_of_texts x y text plan p q h is = of_loaded (bytes order.program) (bytes order.script) x y (HaveText text) p q (plan, h, is)
+
+  module _ (out out' : Option (List ℕ)) (faults faults' short short' : ℕ) where
+    -- how a result text is put is how its order ends
+    pub put_ends : (text : List ℕ) (status : Status) → OfShort bytes order (HaveText text) → PutOutcome text out out' faults faults' short short' status
+        → SyncOutcome bytes counts counts' order out out' faults faults' short short' status
+    put_ends text Success h put =
+        (further (bytes order.program) (bytes order.script) (HaveText text) (HaveResult out out') (λ a b t. (t.0, t.1, subst (Appends out out') t.2 put.0)) h, put.1)
+    put_ends text Usage h put = absurd put
+    put_ends text (Read which) h put = absurd put
+    put_ends text (TooLong which) h put = absurd put
+    put_ends text (Syntax cause at) h put = absurd put
+    put_ends text (Typing cause at) h put = absurd put
+    put_ends text Write h put =
+        (further (bytes order.program) (bytes order.script) (HaveText text) (HavePrefix out out') (λ a b t. (t.0, t.1, subst (AppendsPrefix out out') t.2 put.0)) h, put.1)
+    put_ends text Memory h put =
+        (inr (further (bytes order.program) (bytes order.script) (HaveText text) (HavePrefix out out') (λ a b t. (t.0, t.1, subst (AppendsPrefix out out') t.2 put.0)) h), put.1)
+    put_ends text NotBuilt h put = absurd put
+
+  -- an order without a result puts nothing
+  pub none_ends : (status : Status) (out : Option (List ℕ)) (faults short : ℕ) → NoResult bytes counts counts' order status
+      → SyncOutcome bytes counts counts' order out out faults faults short short status
+  none_ends Success out faults short h = absurd h
+  none_ends Usage out faults short h = absurd h
+  none_ends (Read which) out faults short h = (h, Keeps-refl out, refl)
+  none_ends (TooLong which) out faults short h = (h, Keeps-refl out, refl)
+  none_ends (Syntax cause at) out faults short h = (h, Keeps-refl out, refl)
+  none_ends (Typing cause at) out faults short h = (h, Keeps-refl out, refl)
+  none_ends Write out faults short h = absurd h
+  none_ends Memory out faults short h = (inl (Keeps-refl out), refl)
+  none_ends NotBuilt out faults short h = (h, Keeps-refl out, refl)

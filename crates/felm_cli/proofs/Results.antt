@@ -10,7 +10,7 @@ use Rattle.felm_term.specs.declared.message.Message.{Message}
 use Rattle.felm_term.specs.declared.input.InputDecl.{InputDecl}
 use Rattle.std.specs.Prelude.{nat_lt}
 use Rattle.std.proofs.lemmas.Bool.{ltb-true}
-use Rattle.felm_meaning.specs.Events.{all_of_inputs}
+use Rattle.felm_sources.specs.Events.{all_of_inputs}
 use Rattle.felm_cli.specs.Text.{event_line, event_lines}
 
 -- what is left from an item on

@@ -9,13 +9,13 @@ use Rattle.felm_term.specs.declared.message.Message.{Message}
 use Rattle.felm_term.specs.declared.value.Value.{Value}
 use Rattle.felm_term.specs.declared.input.InputDecl.{InputDecl}
 use Rattle.felm_term.specs.Values.{value_of}
-use Rattle.felm_meaning.specs.Meaning.{source_message, value_at, message_at, messages_after, messages_of}
-use Rattle.felm_meaning.specs.Meaning.{default_of}
-use Rattle.felm_meaning.specs.Journals.{plain_journal}
-use Rattle.felm_meaning.specs.declared.plan.Plan.{Plan}
-use Rattle.felm_meaning.specs.declared.plan.History.{History}
-use Rattle.felm_meaning.proofs.Messages.{messages_more}
-use Rattle.felm_meaning.proofs.Journals.{plain_is_front}
+use Rattle.felm_sources.specs.Meaning.{source_message, value_at, message_at, messages_after, messages_of}
+use Rattle.felm_sources.specs.Meaning.{default_of}
+use Rattle.felm_sources.specs.Journals.{plain_journal}
+use Rattle.felm_sources.specs.declared.plan.Plan.{Plan}
+use Rattle.felm_sources.specs.declared.plan.History.{History}
+use Rattle.felm_sources.proofs.Messages.{messages_more}
+use Rattle.felm_sources.proofs.Journals.{plain_is_front}
 use Rattle.std.proofs.lemmas.Bool.Decides.{leb_tells}
 use Rattle.felm_cli.specs.History.{IsRun}
 

@@ -1,12 +1,11 @@
 -- How a script's lines are read, one after another, and what its events fit.
-use Rattle.std.proofs.Common.{◌≡◌, ◌==◌, not, ℕ, ◌<◌, ◌≤◌, Bool, true, false, List, [], ◌∷◌, ◌++◌, length, map, get_or, Option, Some, None, refl, sym, ap, ◌∙◌, arith, rules, tests, append_assoc, append-nil}
+use Rattle.std.proofs.Common.{filter, ◌≡◌, ◌==◌, not, ℕ, ◌<◌, ◌≤◌, Bool, true, false, List, [], ◌∷◌, ◌++◌, length, map, get_or, Option, Some, None, refl, sym, ap, ◌∙◌, arith, rules, tests, append_assoc, append-nil}
 use Rattle.std.specs.Prelude.{if◌then◌else◌}
 use Rattle.std.specs.Option.{option_map, option_and_then}
 use Rattle.std.proofs.lemmas.List.{nil_from_length}
 use Rattle.felm_term.specs.declared.event.Event.{Event}
 use Rattle.felm_cli.specs.Fields.{lines_of, fields_of, is_filled, filled_lines_of}
 use Rattle.felm_cli.specs.Script.{event_of, events_of, limited, script_of}
-use Rattle.felm_cli.proofs.Lines.{filled_more}
 
 -- a list of two
 pub two_items : {X Y : Type 0} (f : X → Y) (xs : List X) (d e : X) → 2 ≤ length xs → length xs < 3 → map f xs ≡ f (get_or xs 0 d) ∷ f (get_or xs 1 e) ∷ []
@@ -23,6 +22,13 @@ ahead_one : (events : List Event) (event : Event) (more : Option (List Event))
     → ahead (events ++ event ∷ []) more ≡ ahead events (option_map (λ others. event ∷ others) more)
 ahead_one events event None = refl
 ahead_one events event (Some others) = ap Some (append_assoc events (event ∷ []) others)
+
+-- the lines that have a field, behind one that was cut off
+filled_more : (text line after : List ℕ) (fields : List (List ℕ)) → lines_of text ≡ line ∷ lines_of after → fields ≡ fields_of line
+    → filled_lines_of text ≡ (if is_filled fields then fields ∷ filled_lines_of after else filled_lines_of after)
+filled_more text line after fields lines is =
+    ap (λ ls. filter is_filled (map fields_of ls)) lines
+    ∙ ap (λ fs. if is_filled fs then fs ∷ filled_lines_of after else filled_lines_of after) (sym is)
 
 filled_here : (rest line after : List ℕ) (fields : List (List ℕ)) (b : Bool) → lines_of rest ≡ line ∷ lines_of after → fields ≡ fields_of line
     → is_filled fields ≡ b → filled_lines_of rest ≡ (if b then fields ∷ filled_lines_of after else filled_lines_of after)

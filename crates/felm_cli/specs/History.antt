@@ -1,9 +1,9 @@
 -- What the run of a plan finds.
 use Rattle.std.specs.Prelude.{◌≡◌}
-use Rattle.felm_meaning.specs.declared.plan.Plan.{Plan}
-use Rattle.felm_meaning.specs.declared.plan.History.{History}
-use Rattle.felm_meaning.specs.Meaning.{default_of, messages_of}
-use Rattle.felm_meaning.specs.Journals.{plain_journal}
+use Rattle.felm_sources.specs.declared.plan.Plan.{Plan}
+use Rattle.felm_sources.specs.declared.plan.History.{History}
+use Rattle.felm_sources.specs.Meaning.{default_of, messages_of}
+use Rattle.felm_sources.specs.Journals.{plain_journal}
 
 -- the plan's journal on one thread, and over it the default and the messages of the shown input by the meaning
 pub record IsRun (plan : Plan) (history : History) : Type 0 where

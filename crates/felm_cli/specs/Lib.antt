@@ -1,5 +1,6 @@
 pub mod Fields
-pub mod Program
+pub mod Names
+pub mod Shown
 pub mod Script
 pub mod Plans
 pub mod Text
@@ -10,4 +11,3 @@ pub mod Fault
 pub mod Outcomes
 pub mod Laws
 pub mod Views
-pub mod Parts

@@ -7,8 +7,8 @@ use Rattle.felm_term.specs.declared.message.Message.{Message}
 use Rattle.felm_term.specs.declared.value.Value.{Value}
 use Rattle.felm_term.specs.declared.input.InputDecl.{InputDecl}
 use Rattle.felm_term.specs.Text.{value_text, message_text}
-use Rattle.felm_meaning.specs.Meaning.{default_of, messages_of}
-use Rattle.felm_meaning.specs.Journals.{plain_journal}
+use Rattle.felm_sources.specs.Meaning.{default_of, messages_of}
+use Rattle.felm_sources.specs.Journals.{plain_journal}
 use Rattle.felm_cli.specs.Plans.{Planned, default_journal_limit}
 
 -- a source's text: the name of its input

@@ -1,13 +1,7 @@
 -- What contracts see of the values that this crate passes on.
 use Rattle.felm_cli.specs.declared.words.SyncOrder.{SyncOrder as SyncWords}
-use Rattle.felm_cli.specs.declared.program.ReadProgram.{ReadProgram}
 use Rattle.felm_cli.specs.Words.{SyncOrder}
-use Rattle.felm_cli.specs.Program.{Program}
 
 -- an order, by the bytes of its file names
 abbrev pub sync_of : SyncWords → SyncOrder
 sync_of words = record { program = words.program.now; script = words.script.now }
-
--- a program, without the spare room of its list
-abbrev pub program_in : ReadProgram → Program
-program_in read = record { inputs = read.inputs.items; main = read.main }

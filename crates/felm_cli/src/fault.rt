@@ -1,40 +1,54 @@
 //! Fault lines.
-ghost use Rattle.std.specs.Prelude.{◌≡◌, ◌++◌, OnOk, OnErr};
+ghost use Rattle.std.specs.Prelude.{◌≡◌, ◌++◌, map, OnOk, OnErr, decimal};
+ghost use Rattle.std.specs.List.{concat};
 ghost use Rattle.std.specs.Io.KnownBytes.{Appends};
 ghost use Rattle.felm_io.specs.Causes.{CountedPut, AppendsPrefix};
-ghost use Rattle.felm_cli.specs.Fault.{cannot_read, fault_text, FaultPut};
+ghost use Rattle.felm_cli.specs.Fault.{at_byte, fault_text, FaultPut};
 
 use crate::status::Status;
+use arrayvec::ArrayVec;
 use felm_io::{Sink, SinkFail, put_all};
+use itoa::Buffer;
 
-/// Puts one piece after another.
-fn put_pair<S: Sink>(sink: &mut S, first: &[u8], second: &[u8]) -> Result<(), SinkFail>
-    ensures ok { OnOk result (Appends (S.bytes sink.old) (S.bytes sink.new) (first.now ++ second.now)) }
-    ensures err { OnErr result (AppendsPrefix (S.bytes sink.old) (S.bytes sink.new) (first.now ++ second.now)) }
-    ensures counts { CountedPut (S.faults sink.old) (S.faults sink.new) (S.short sink.old) (S.short sink.new) result }
+/// A number in decimal.
+fn digits(number: usize) -> ArrayVec<u8, 20>
+    ensures { result.items ≡ decimal number }
 {
-    match put_all(sink, first) {
-        Ok(()) => match put_all(sink, second) {
-            Ok(()) => Ok(()),
-            Err(fail) => Err(fail),
-        },
-        Err(fail) => Err(fail),
-    }
+    let mut buffer = Buffer::new();
+    let mut digits = ArrayVec::new();
+    let _ = digits.try_extend_from_slice(buffer.format(number).as_bytes());
+    digits
 }
 
-/// Puts the line of a file that can't be read.
-fn put_cannot_read<S: Sink>(sink: &mut S, file: &str) -> Result<(), SinkFail>
-    ensures ok { OnOk result (Appends (S.bytes sink.old) (S.bytes sink.new) (cannot_read file.now)) }
-    ensures err { OnErr result (AppendsPrefix (S.bytes sink.old) (S.bytes sink.new) (cannot_read file.now)) }
+/// Puts one piece after another.
+fn put_pieces<S: Sink>(sink: &mut S, pieces: &[&[u8]]) -> Result<(), SinkFail>
+    ensures ok { OnOk result (Appends (S.bytes sink.old) (S.bytes sink.new) (concat (map (λ piece. piece.now) pieces.now))) }
+    ensures err { OnErr result (AppendsPrefix (S.bytes sink.old) (S.bytes sink.new) (concat (map (λ piece. piece.now) pieces.now))) }
     ensures counts { CountedPut (S.faults sink.old) (S.faults sink.new) (S.short sink.old) (S.short sink.new) result }
 {
-    match put_all(sink, b"felm: cannot read ") {
-        Ok(()) => match put_pair(sink, file.as_bytes(), b"\n") {
-            Ok(()) => Ok(()),
-            Err(fail) => Err(fail),
-        },
-        Err(fail) => Err(fail),
+    for piece in pieces {
+        put_all(sink, piece)?;
     }
+    Ok(())
+}
+
+/// Puts the line of what is wrong with a program's text, and where.
+fn put_at_byte<S: Sink>(sink: &mut S, fault: &str, at: usize) -> Result<(), SinkFail>
+    ensures ok { OnOk result (Appends (S.bytes sink.old) (S.bytes sink.new) (at_byte fault.now at)) }
+    ensures err { OnErr result (AppendsPrefix (S.bytes sink.old) (S.bytes sink.new) (at_byte fault.now at)) }
+    ensures counts { CountedPut (S.faults sink.old) (S.faults sink.new) (S.short sink.old) (S.short sink.new) result }
+{
+    let digits = digits(at);
+    put_pieces(
+        sink,
+        &[
+            b"felm: ",
+            fault.as_bytes(),
+            b" at byte ",
+            digits.as_slice(),
+            b"\n",
+        ],
+    )
 }
 
 /// Puts the line of a status about a file, and nothing for success. It takes no memory of its own.
@@ -46,7 +60,10 @@ pub fn put_fault<E: Sink>(status: &Status, file: &str, err: &mut E) -> Result<()
     match status {
         Status::Success => put_all(err, b""),
         Status::Usage => put_all(err, b"felm: the words name no command of this program\n"),
-        Status::Read { .. } => put_cannot_read(err, file),
+        Status::Read { .. } => put_pieces(err, &[b"felm: cannot read ", file.as_bytes(), b"\n"]),
+        Status::TooLong { .. } => put_pieces(err, &[b"felm: ", file.as_bytes(), b" is too long\n"]),
+        Status::Syntax { cause, at } => put_at_byte(err, cause.fault(), *at),
+        Status::Typing { cause, at } => put_at_byte(err, cause.fault(), *at),
         Status::Write => put_all(err, b"felm: cannot write\n"),
         Status::Memory => put_all(err, b"felm: out of memory\n"),
         Status::NotBuilt => put_all(err, b"felm: this form is not built yet\n"),

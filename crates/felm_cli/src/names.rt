@@ -1,7 +1,7 @@
 //! Inputs by name.
 ghost use Rattle.std.specs.Prelude.{◌≡◌, ◌<◌, true, false, length, position, bytes_eq, IfOk, IfSome, IfNone};
 ghost use Rattle.felm_term.specs.Inputs.{names_of};
-ghost use Rattle.felm_cli.specs.Program.{are_distinct};
+ghost use Rattle.felm_cli.specs.Names.{are_distinct};
 
 use felm_term::{InputDecl, Memory};
 use indexmap::IndexSet;

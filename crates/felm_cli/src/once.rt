@@ -1,25 +1,31 @@
 //! The top call that waits for nobody.
-ghost use Rattle.std.specs.Prelude.{◌≡◌, ◌≤◌, ◌↔◌, ℕ, List, map, string_bytes, IfSome, IfOk, Some, None};
+ghost use Rattle.std.specs.Prelude.{length, ◌≡◌, ◌≤◌, ◌↔◌, ℕ, List, map, string_bytes, IfSome, IfOk, Some, None, ◌⊎◌};
 ghost use Rattle.std.specs.Io.KnownBytes.{Keeps};
 ghost use Rattle.felm_io.specs.Causes.{Rose};
+ghost use Rattle.felm_syntax.specs.declared.program.Program.{Program};
 ghost use Rattle.felm_cli.specs.declared.status.Which.{Which};
+ghost use Rattle.felm_cli.specs.declared.status.SyntaxCause.{SyntaxCause};
+ghost use Rattle.felm_cli.specs.declared.status.TypingCause.{TypingCause};
 ghost use Rattle.felm_cli.specs.Words.{order_of};
 ghost use Rattle.felm_cli.specs.Fault.{fault_text, file_of, file_named, FaultPut};
-ghost use Rattle.felm_cli.specs.Plans.{planned, plan_of_texts, default_journal_limit};
+ghost use Rattle.felm_cli.specs.Plans.{planned, AreUnbuilt, IsSyntaxFault, IsTypingFault, IsTypedText, default_journal_limit};
 ghost use Rattle.felm_cli.specs.Text.{plan_text};
-ghost use Rattle.felm_cli.specs.Outcomes.{OfOrder, HasResult, HasPrefix, HasPrefixIfAny, CountsStay, OnLoaded, OnQuiet, OnUnfailed, PutOutcome, TextsOutcome, SyncOutcome, WordsOutcome};
+ghost use Rattle.felm_cli.specs.Outcomes.{OfOrder, OfShort, IsTooLong, HaveResult, HavePrefix, CountsStay, OnAccepted, OnLoaded, OnErrLoaded, OnQuiet, OnUnfailed, LoadedOrFault, ResultOrFault, PutOutcome, SyncOutcome, WordsOutcome};
 ghost use Rattle.felm_cli.specs.Views.{sync_of};
 
 use crate::fault::tell;
-use crate::plans::{LONGEST, read_plan};
+use crate::plans::read_plan;
 use crate::printing::result_text;
 use crate::running::run;
 use crate::status::{Status, Which};
 use crate::words::{SyncOrder, read_words};
 use felm_io::{Files, LoadFail, Sink, SinkFail, put_all};
-use felm_meaning::Plan;
+use felm_sources::Plan;
 use felm_term::Memory;
 use std::alloc::Global;
+
+/// The greatest length of a text, in bytes.
+const LONGEST: usize = 16_777_216;
 
 /// Does the command that the words give: `sync PROGRAM SCRIPT`.
 ///
@@ -39,26 +45,38 @@ pub fn felm_once<F: Files, S: Sink, E: Sink>(
     // The words are refused exactly where they give no order.
     ensures usage { (result ≡ Status.Usage) ↔ (order_of (map string_bytes words.now) ≡ None) }
     // Success has appended the result text of the plan of the two texts, and no put of it was refused.
-    ensures success { result ≡ Status.Success → OfOrder (F.bytes files.old) (order_of (map string_bytes words.now))
-        (λ found. HasResult found (S.bytes out.old) (S.bytes out.new)) }
+    ensures success { result ≡ Status.Success → OfOrder (order_of (map string_bytes words.now))
+        (λ order. OfShort (F.bytes files.old) order (HaveResult (S.bytes out.old) (S.bytes out.new))) }
     ensures unrefused { result ≡ Status.Success → CountsStay (S.faults out.old) (S.faults out.new) (S.short out.old) (S.short out.new) }
     // Every status but Read says that no load failed in this call, and every one but Write that no put of the result did.
     ensures loaded { (name : List ℕ) → OnLoaded result (F.faults files.new name ≡ F.faults files.old name) }
     ensures unfailed { OnUnfailed result (S.faults out.new ≡ S.faults out.old) }
     // Read comes only where a load of the file that the order names failed in this call.
-    ensures read { (which : Which) → result ≡ Status.Read which → IfSome (order_of (map string_bytes words.now))
+    ensures read { (which : Which) → result ≡ Status.Read which → OfOrder (order_of (map string_bytes words.now))
         (λ order. Rose (F.faults files.old (file_of which order)) (F.faults files.new (file_of which order))) }
-    // A form that isn't built: the two texts make no plan. Where they make none, nothing else but Read and Memory comes.
-    ensures not_built { result ≡ Status.NotBuilt → OfOrder (F.bytes files.old) (order_of (map string_bytes words.now)) (λ found. found ≡ None) }
+    // A text that is too long is named, the program before the script; both are short where the program is judged.
+    ensures too_long { (which : Which) → result ≡ Status.TooLong which → OfOrder (order_of (map string_bytes words.now))
+        (λ order. IsTooLong (F.bytes files.old) order which) }
+    // A text that is no program, and a program without a type, are told by their cause and place; only a typed program is taken further.
+    ensures syntax { (cause : SyntaxCause) (at : ℕ) → result ≡ Status.Syntax cause at → OfOrder (order_of (map string_bytes words.now))
+        (λ order. OfShort (F.bytes files.old) order (λ program script. IsSyntaxFault program cause at)) }
+    ensures typing { (cause : TypingCause) (at : ℕ) → result ≡ Status.Typing cause at → OfOrder (order_of (map string_bytes words.now))
+        (λ order. OfShort (F.bytes files.old) order (λ program script. IsTypingFault program cause at)) }
+    ensures accepted { OnAccepted result (OfOrder (order_of (map string_bytes words.now))
+        (λ order. OfShort (F.bytes files.old) order (λ program script. (read : Program) × IsTypedText program read))) }
+    // A form that isn't built: the program is typed, and the two texts have no plan.
+    ensures not_built { result ≡ Status.NotBuilt → OfOrder (order_of (map string_bytes words.now))
+        (λ order. OfShort (F.bytes files.old) order AreUnbuilt) }
     // Write comes only where a put of the result failed in this call, and a prefix of it is there.
     ensures write { result ≡ Status.Write → Rose (S.faults out.old) (S.faults out.new) }
-    ensures written { result ≡ Status.Write → OfOrder (F.bytes files.old) (order_of (map string_bytes words.now))
-        (λ found. HasPrefix found (S.bytes out.old) (S.bytes out.new)) }
-    // Want of memory leaves a prefix of the result text, and nothing where there is none.
-    ensures memory { result ≡ Status.Memory → OfOrder (F.bytes files.old) (order_of (map string_bytes words.now))
-        (λ found. HasPrefixIfAny found (S.bytes out.old) (S.bytes out.new)) }
+    ensures written { result ≡ Status.Write → OfOrder (order_of (map string_bytes words.now))
+        (λ order. OfShort (F.bytes files.old) order (HavePrefix (S.bytes out.old) (S.bytes out.new))) }
+    // Want of memory leaves nothing, or a prefix of the result text of the plan of the two texts.
+    ensures memory { result ≡ Status.Memory → OfOrder (order_of (map string_bytes words.now))
+        (λ order. Keeps (S.bytes out.old) (S.bytes out.new) ⊎ OfShort (F.bytes files.old) order (HavePrefix (S.bytes out.old) (S.bytes out.new))) }
     // A command that isn't run appends nothing to `out`.
     ensures quiet { OnQuiet result (Keeps (S.bytes out.old) (S.bytes out.new)) }
+
     // The line of the status is put to `err`, whole, or a prefix of it where a put was refused in this call.
     ensures fault { FaultPut (fault_text result (file_named (order_of (map string_bytes words.now)) result)) (E.bytes err.old) (E.bytes err.new)
         (E.faults err.old) (E.faults err.new) (E.short err.old) (E.short err.new) }
@@ -71,7 +89,7 @@ pub fn felm_once<F: Files, S: Sink, E: Sink>(
         tell(&Status::Usage, "", err);
         return Status::Usage;
     };
-    let status = sync(alloc, order, files, out);
+    let status = sync(alloc, &order, files, out);
     tell(&status, file_named(&order, &status), err);
     status
 }
@@ -81,69 +99,71 @@ fn file_named<'a>(order: &SyncOrder<'a>, status: &Status) -> &'a str
     ensures { result.now ≡ file_named (Some (sync_of order.now)) status.now }
 {
     match status {
-        Status::Read {
-            which: Which::Program,
-        } => order.program,
-        Status::Read {
-            which: Which::Script,
-        } => order.script,
+        Status::Read { which } => order.file(*which),
+        Status::TooLong { which } => order.file(*which),
         _ => "",
     }
 }
 
-/// Loads the two texts of an order, and runs them.
+/// The text of a file of an order, all of it.
+fn load_text<F: Files>(
+    alloc: Global,
+    order: &SyncOrder<'_>,
+    which: Which,
+    files: &mut F,
+) -> Result<Vec<u8>, Status>
+    ensures text { LoadedOrFault (λ text. text.items) (F.bytes files.old) (F.faults files.old) (F.faults files.new) (sync_of order.now) which result }
+    ensures short { IfOk result (λ text. length text.items ≤ 16777216) }
+    ensures loaded { (name : List ℕ) → OnErrLoaded result (F.faults files.new name ≡ F.faults files.old name) }
+    ensures files { (name : List ℕ) → F.bytes files.new name ≡ F.bytes files.old name }
+    ensures counts { (name : List ℕ) → F.faults files.old name ≤ F.faults files.new name }
+{
+    let text = match files.load(alloc, order.file(which), LONGEST + 1) {
+        Ok(text) => text,
+        Err(LoadFail::Failed) => return Err(Status::Read { which }),
+        Err(LoadFail::Memory) => return Err(Status::Memory),
+    };
+    if text.len() > LONGEST {
+        return Err(Status::TooLong { which });
+    }
+    Ok(text)
+}
+
+/// The result text of an order.
+fn text_of_order<F: Files>(
+    alloc: Global,
+    order: &SyncOrder<'_>,
+    files: &mut F,
+) -> Result<Vec<u8>, Status>
+    ensures text { ResultOrFault (λ text. text.items) (F.bytes files.old) (F.faults files.old) (F.faults files.new) (sync_of order.now) result }
+    ensures loaded { (name : List ℕ) → OnErrLoaded result (F.faults files.new name ≡ F.faults files.old name) }
+    ensures files { (name : List ℕ) → F.bytes files.new name ≡ F.bytes files.old name }
+    ensures counts { (name : List ℕ) → F.faults files.old name ≤ F.faults files.new name }
+{
+    let program = load_text(alloc, order, Which::Program, files)?;
+    let script = load_text(alloc, order, Which::Script, files)?;
+    let plan = read_plan(alloc, program.as_slice(), script.as_slice())?;
+    drop(program);
+    drop(script);
+    Ok(text_of_run(alloc, &plan)?)
+}
+
+/// Does an order: puts its result text.
 fn sync<F: Files, S: Sink>(
     alloc: Global,
-    order: SyncOrder<'_>,
+    order: &SyncOrder<'_>,
     files: &mut F,
     out: &mut S,
 ) -> Status
-    ensures outcome { SyncOutcome (F.bytes files.old) (F.faults files.old) (F.faults files.new) (sync_of order.entry)
+    ensures outcome { SyncOutcome (F.bytes files.old) (F.faults files.old) (F.faults files.new) (sync_of order.now)
         (S.bytes out.old) (S.bytes out.new) (S.faults out.old) (S.faults out.new) (S.short out.old) (S.short out.new) result }
     ensures loaded { (name : List ℕ) → OnLoaded result (F.faults files.new name ≡ F.faults files.old name) }
     ensures files { (name : List ℕ) → F.bytes files.new name ≡ F.bytes files.old name }
     ensures counts { (name : List ℕ) → F.faults files.old name ≤ F.faults files.new name }
 {
-    let program = match files.load(alloc, order.program, LONGEST + 1) {
-        Ok(text) => text,
-        Err(LoadFail::Failed) => return Status::Read {
-            which: Which::Program,
-        },
-        Err(LoadFail::Memory) => return Status::Memory,
-    };
-    let script = match files.load(alloc, order.script, LONGEST + 1) {
-        Ok(text) => text,
-        Err(LoadFail::Failed) => return Status::Read {
-            which: Which::Script,
-        },
-        Err(LoadFail::Memory) => return Status::Memory,
-    };
-    sync_texts(alloc, program, script, out)
-}
-
-/// Runs the text of a program on the text of a script.
-fn sync_texts<S: Sink>(alloc: Global, program: Vec<u8>, script: Vec<u8>, out: &mut S) -> Status
-    ensures { TextsOutcome (plan_of_texts program.items script.items)
-        (S.bytes out.old) (S.bytes out.new) (S.faults out.old) (S.faults out.new) (S.short out.old) (S.short out.new) result }
-{
-    let read = read_plan(alloc, program.as_slice(), script.as_slice());
-    drop(program);
-    drop(script);
-    match read {
-        Ok(Some(plan)) => sync_plan(alloc, &plan, out),
-        Ok(None) => Status::NotBuilt,
-        Err(_) => Status::Memory,
-    }
-}
-
-/// Runs a plan, and puts its result text.
-fn sync_plan<S: Sink>(alloc: Global, plan: &Plan, out: &mut S) -> Status
-    requires { plan.now.limits.journal ≡ default_journal_limit }
-    ensures { PutOutcome (plan_text (planned plan.now)) (S.bytes out.old) (S.bytes out.new) (S.faults out.old) (S.faults out.new) (S.short out.old) (S.short out.new) result }
-{
-    match text_of_run(alloc, plan) {
+    match text_of_order(alloc, order, files) {
         Ok(text) => put_result(text.as_slice(), out),
-        Err(_) => Status::Memory,
+        Err(status) => status,
     }
 }
 

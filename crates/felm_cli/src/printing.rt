@@ -1,9 +1,9 @@
 //! The result text.
 ghost use Rattle.std.specs.Prelude.{◌≡◌, ◌++◌, length, IsTrue, IfOk, OnOk, string_bytes};
-ghost use Rattle.felm_meaning.specs.Events.{all_of_inputs};
+ghost use Rattle.felm_sources.specs.Events.{all_of_inputs};
 ghost use Rattle.felm_cli.specs.Text.{event_line, history_text};
 
-use felm_meaning::{History, Plan};
+use felm_sources::{History, Plan};
 use felm_term::{Event, Memory, Message, Name};
 use std::alloc::Global;
 

@@ -1,10 +1,10 @@
 //! The run of a plan on one thread.
 ghost use Rattle.std.specs.Prelude.{◌≡◌, IfOk, Some};
 ghost use Rattle.felm_term.specs.Values.{value_of};
-ghost use Rattle.felm_meaning.specs.Meaning.{default_of, source_message};
+ghost use Rattle.felm_sources.specs.Meaning.{default_of, source_message};
 ghost use Rattle.felm_cli.specs.History.{IsRun};
 
-use felm_meaning::{History, Plan};
+use felm_sources::{History, Plan};
 use felm_term::{Event, InputTy, Items, Memory, Message, Value};
 use std::alloc::Global;
 

@@ -1,4 +1,4 @@
-use crate::{Status, Which, felm_once, felm_over_sure};
+use crate::{Status, SyntaxCause, TypingCause, Which, felm_once, felm_over_sure};
 use felm_io::{MemoryFiles, MemorySink, SureFiles, SureSink};
 use felm_term::Limits;
 use std::alloc::{AllocError, Global};
@@ -53,7 +53,7 @@ fn results_are_put_whole(rt: HostRuntime) -> Result<(), Fail> {
             b"felm-result 1\n0 default 7\n1 x 1 same 7\n2 y 2 change 2\n3 x 3 same 2\n4 y 2 change 2\nend 4\n",
         ),
         (
-            b"\n  input   _a1 : int = -007 \n\n main =  _a1",
+            b"-- one input\n  input\t_a1: int =-007 --\r\n\n main= _a1",
             b" \n_a1  -9223372036854775808\n\n_a1 9223372036854775807",
             b"felm-result 1\n0 default -7\n1 _a1 -9223372036854775808 change -9223372036854775808\n2 _a1 9223372036854775807 change 9223372036854775807\nend 2\n",
         ),
@@ -74,19 +74,15 @@ fn results_are_put_whole(rt: HostRuntime) -> Result<(), Fail> {
 
 #[test]
 fn other_forms_are_not_built(rt: HostRuntime) -> Result<(), Fail> {
-    let cases: [(&[u8], &[u8]); 16] = [
-        (b"", b""),
-        (b"main = x\n", b""),
-        (b"input x : int = 0\n", b""),
-        (b"input x : int = 0\nmain = y\n", b""),
-        (b"input x : int = 0\nmain = x\nmain = x\n", b""),
-        (b"input x : int = 0\nmain = x x\n", b""),
-        (b"input x : int = 0\ninput x : int = 1\nmain = x\n", b""),
-        (b"input let : int = 0\nmain = let\n", b""),
-        (b"input merge : int = 0\nmain = merge\n", b""),
-        (b"input 1x : int = 0\nmain = 1x\n", b""),
+    let cases: [(&[u8], &[u8]); 9] = [
+        (b"input x : int = 0\nmain = async x\n", b""),
+        (b"input x : int = 0\nmain = let a = x in a\n", b""),
+        (
+            b"input x : int = 0\nmain = lift1 (\\n:int. n + 1) x\n",
+            b"x 1\n",
+        ),
         (b"input x : unit = ()\nmain = x\n", b""),
-        (b"input x : int = 9223372036854775808\nmain = x\n", b""),
+        (b"input x : int = 0 input y : unit = () main = x", b""),
         (PROGRAM, b"y 1\n"),
         (PROGRAM, b"x\n"),
         (PROGRAM, b"x 1 2\n"),
@@ -101,6 +97,192 @@ fn other_forms_are_not_built(rt: HostRuntime) -> Result<(), Fail> {
             b"felm: this form is not built yet\n".as_slice()
         );
     }
+    Ok(())
+}
+
+/// Whether a program is refused with this status and this line, and nothing else is put.
+fn is_refused(alloc: Global, program: &[u8], status: Status, line: &[u8]) -> Result<bool, Fail> {
+    let (found, out, err) = sync(alloc, program, b"no script at all\n")?;
+    Ok(found == status && out.bytes().is_empty() && err.bytes() == line)
+}
+
+#[test]
+fn faults_of_a_program_are_named_with_their_bytes(rt: HostRuntime) -> Result<(), Fail> {
+    let cases: [(&[u8], SyntaxCause, usize, &[u8]); 8] = [
+        (
+            b"",
+            SyntaxCause::Grammar,
+            0,
+            b"felm: syntax error at byte 0\n",
+        ),
+        (
+            b"input x : int = 0\nmain = let y =",
+            SyntaxCause::Grammar,
+            32,
+            b"felm: syntax error at byte 32\n",
+        ),
+        (
+            b"main = x\nmain = x\n",
+            SyntaxCause::Grammar,
+            9,
+            b"felm: syntax error at byte 9\n",
+        ),
+        (
+            b"input merge : int = 0\nmain = merge\n",
+            SyntaxCause::Grammar,
+            6,
+            b"felm: syntax error at byte 6\n",
+        ),
+        (
+            b"input x : int = 0\ninput x : int = 1\nmain = x\n",
+            SyntaxCause::Twice,
+            24,
+            b"felm: input declared twice at byte 24\n",
+        ),
+        (
+            b"input x : int = 0\nmain = lift1 (\\n:int. 9223372036854775808) x\n",
+            SyntaxCause::Grammar,
+            40,
+            b"felm: syntax error at byte 40\n",
+        ),
+        (
+            b"input x : int = 0\nmain = lift1 (\\n:int. 9223372036854775809) x\n",
+            SyntaxCause::Wide,
+            40,
+            b"felm: number too wide at byte 40\n",
+        ),
+        (
+            b"input x : int = 0\nmain = x & x\n",
+            SyntaxCause::NoToken,
+            27,
+            b"felm: no token at byte 27\n",
+        ),
+    ];
+    for (program, cause, at, line) in cases {
+        let status = Status::Syntax { cause, at };
+        assert!(rt; is_refused(rt.alloc(), program, status, line)?);
+    }
+    Ok(())
+}
+
+#[test]
+fn faults_of_types_are_named_with_their_bytes(rt: HostRuntime) -> Result<(), Fail> {
+    let cases: [(&[u8], TypingCause, usize, &[u8]); 7] = [
+        (
+            b"input x : int = 0\nmain = lift1 (\\s:signal int. s) x\n",
+            TypingCause::Untyped,
+            25,
+            b"felm: no type at byte 25\n",
+        ),
+        (
+            b"input x : int = 0\nmain = lift1 (\\s:signal (signal int). 0) x\n",
+            TypingCause::IllFormed,
+            35,
+            b"felm: ill-formed type at byte 35\n",
+        ),
+        (
+            b"input x : int = 0\nmain = let y = x in 3\n",
+            TypingCause::Untyped,
+            25,
+            b"felm: no type at byte 25\n",
+        ),
+        (
+            b"input x : int = 0\nmain = 3\n",
+            TypingCause::MainType,
+            25,
+            b"felm: main is no signal at byte 25\n",
+        ),
+        (
+            b"input x : int = 0\nmain = z\n",
+            TypingCause::Unknown,
+            25,
+            b"felm: unknown name at byte 25\n",
+        ),
+        (
+            b"input x : int = 0\nmain = x x\n",
+            TypingCause::Untyped,
+            27,
+            b"felm: no type at byte 27\n",
+        ),
+        (
+            b"main = async (1 + z)\n",
+            TypingCause::Unknown,
+            18,
+            b"felm: unknown name at byte 18\n",
+        ),
+    ];
+    for (program, cause, at, line) in cases {
+        let status = Status::Typing { cause, at };
+        assert!(rt; is_refused(rt.alloc(), program, status, line)?);
+    }
+    Ok(())
+}
+
+/// The program that shows its input `x`, which stands in so many brackets.
+fn bracketed(alloc: Global, depth: u8) -> Result<Vec<u8>, AllocError> {
+    let depth = usize::from(depth);
+    let mut text = Vec::from_slice(alloc, b"input x : int = 0\nmain = ")?;
+    text.resize(25 + depth, b'(')?;
+    text.push(b'x')?;
+    text.resize(26 + 2 * depth, b')')?;
+    Ok(text)
+}
+
+#[test]
+fn brackets_nest_199_deep(rt: HostRuntime) -> Result<(), Fail> {
+    let program = bracketed(rt.alloc(), 199)?;
+    let (status, out, _) = sync(rt.alloc(), program.as_slice(), SCRIPT)?;
+    assert_eq!(rt; status, Status::Success);
+    assert_eq!(rt; out.bytes(), RESULT);
+    Ok(())
+}
+
+#[test]
+fn brackets_nest_no_deeper(rt: HostRuntime) -> Result<(), Fail> {
+    let program = bracketed(rt.alloc(), 200)?;
+    let cause = SyntaxCause::Depth;
+    let status = Status::Syntax { cause, at: 225 };
+    let line = b"felm: nested too deeply at byte 225\n".as_slice();
+    assert!(rt; is_refused(rt.alloc(), program.as_slice(), status, line)?);
+    Ok(())
+}
+
+/// A text of so many spaces.
+fn spaces(alloc: Global, length: usize) -> Result<Vec<u8>, AllocError> {
+    let mut text = Vec::new(alloc);
+    text.resize(length, b' ')?;
+    Ok(text)
+}
+
+#[test]
+fn a_long_program_is_named(rt: HostRuntime) -> Result<(), Fail> {
+    let program = spaces(rt.alloc(), 16_777_217)?;
+    let which = Which::Program;
+    let status = Status::TooLong { which };
+    let line = b"felm: p is too long\n".as_slice();
+    assert!(rt; is_refused(rt.alloc(), program.as_slice(), status, line)?);
+    Ok(())
+}
+
+#[test]
+fn the_longest_program_is_read(rt: HostRuntime) -> Result<(), Fail> {
+    let program = spaces(rt.alloc(), 16_777_216)?;
+    let cause = SyntaxCause::Grammar;
+    let at = 16_777_216;
+    let status = Status::Syntax { cause, at };
+    let line = b"felm: syntax error at byte 16777216\n".as_slice();
+    assert!(rt; is_refused(rt.alloc(), program.as_slice(), status, line)?);
+    Ok(())
+}
+
+#[test]
+fn a_long_script_is_named(rt: HostRuntime) -> Result<(), Fail> {
+    let script = spaces(rt.alloc(), 16_777_217)?;
+    let (status, out, err) = sync(rt.alloc(), PROGRAM, script.as_slice())?;
+    let which = Which::Script;
+    assert_eq!(rt; status, Status::TooLong { which });
+    assert_eq!(rt; out.bytes(), b"".as_slice());
+    assert_eq!(rt; err.bytes(), b"felm: s is too long\n".as_slice());
     Ok(())
 }
 
@@ -215,10 +397,20 @@ fn limits_have_their_defaults(rt: HostRuntime) {
 #[test]
 fn statuses_have_their_numbers(rt: HostRuntime) {
     let which = Which::Program;
+    let cause = SyntaxCause::Twice;
     let cases = [
         (Status::Success, 0),
         (Status::Usage, 2),
         (Status::Read { which }, 3),
+        (Status::TooLong { which }, 4),
+        (Status::Syntax { cause, at: 1 }, 5),
+        (
+            Status::Typing {
+                cause: TypingCause::Untyped,
+                at: 1,
+            },
+            6,
+        ),
         (Status::Write, 11),
         (Status::Memory, 12),
         (Status::NotBuilt, 13),

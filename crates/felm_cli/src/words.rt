@@ -2,13 +2,28 @@
 ghost use Rattle.std.specs.Prelude.{◌≡◌, map, string_bytes};
 ghost use Rattle.std.specs.Option.{option_map};
 ghost use Rattle.felm_cli.specs.Words.{is_file, order_of, order_of_three};
+ghost use Rattle.felm_cli.specs.Fault.{file_of};
 ghost use Rattle.felm_cli.specs.Views.{sync_of};
+
+use crate::status::Which;
 
 /// `sync`: run the program of one file on the script of another.
 #[derive(Clone, Copy, Debug)]
 pub struct SyncOrder<'a> {
     pub program: &'a str,
     pub script: &'a str,
+}
+
+impl<'a> SyncOrder<'a> {
+    /// The name of one of its files.
+    pub fn file(&self, which: Which) -> &'a str
+        ensures { result.now ≡ file_of which (sync_of self.now) }
+    {
+        match which {
+            Which::Program => self.program,
+            Which::Script => self.script,
+        }
+    }
 }
 
 fn is_file(word: &[u8]) -> bool

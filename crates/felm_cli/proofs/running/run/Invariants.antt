@@ -1,5 +1,5 @@
 use Rattle.std.proofs.Common.{◌≡◌, take}
-use Rattle.felm_meaning.specs.Meaning.{value_at, messages_after}
+use Rattle.felm_sources.specs.Meaning.{value_at, messages_after}
 use Rattle.felm_cli.proofs.running.run.Given as goal
 
 -- the journal so far, and the value and the messages of the shown input over it

@@ -3,7 +3,7 @@ use Rattle.std.specs.Prelude.{bytes_eq}
 use Rattle.std.specs.List.{list_any}
 use Rattle.std.proofs.lemmas.List.{length-map, take_all}
 use Rattle.felm_term.specs.Inputs.{names_of}
-use Rattle.felm_cli.specs.Program.{are_distinct}
+use Rattle.felm_cli.specs.Names.{are_distinct}
 use Rattle.felm_cli.proofs.NameTables.{names_more, name_at, distinct_more, stands_twice, new_if, there_if}
 use Rattle.felm_cli.proofs.names.Names.of.Goals as goal
 

@@ -1,6 +1,6 @@
 use Rattle.std.proofs.Common.{◌≡◌, true, map, take}
 use Rattle.felm_term.specs.Inputs.{names_of}
-use Rattle.felm_cli.specs.Program.{are_distinct}
+use Rattle.felm_cli.specs.Names.{are_distinct}
 use Rattle.felm_cli.proofs.names.Names.of.Given as goal
 
 -- the table has the names so far, and none of them stands twice

@@ -1,0 +1,5 @@
+use Rattle.felm_cli.proofs.Faults.{faulty_texts}
+use Rattle.felm_cli.proofs.laws.faulty_texts_are_no_programs.Goals as goal
+
+pub returns : goal.returns
+returns c = faulty_texts

@@ -1,0 +1,5 @@
+use Rattle.felm_cli.proofs.Faults.{one_plan}
+use Rattle.felm_cli.proofs.laws.one_plan.Goals as goal
+
+pub returns : goal.returns
+returns c = one_plan
