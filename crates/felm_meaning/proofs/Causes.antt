@@ -5,6 +5,7 @@ use Rattle.std.proofs.lemmas.Grind.{common_steps}
 use Rattle.std.proofs.lemmas.Option.{none-some, same_Some, slice_get_within, slice_get_past}
 use Rattle.std.proofs.lemmas.Bool.{cases_eq, cases_lt}
 use Rattle.std.proofs.lemmas.List.{length-append, append-nil}
+use Rattle.std.specs.Option.{option_or}
 use Rattle.felm_term.specs.declared.value.Value.{Value}
 use Rattle.felm_term.specs.declared.message.Message.{Message}
 use Rattle.felm_term.specs.declared.message.Message.TheVariants.{Change, NoChange}
@@ -12,7 +13,7 @@ use Rattle.felm_term.specs.declared.event.Event.{Event}
 use Rattle.felm_graph.specs.GraphValue.{GraphValue}
 use Rattle.felm_meaning.specs.Nodes.{is_input, inner}
 use Rattle.felm_meaning.specs.Meaning.{msg, changes, changed_in, IsThere}
-use Rattle.felm_meaning.specs.Journals.{IsCaused, IsLegal, IsComplete, AllThere, inputs_in, entered, first_waiting, next, first_of}
+use Rattle.felm_meaning.specs.Journals.{IsCaused, IsLegal, IsComplete, AllThere, inputs_in, entered, first_waiting, next}
 use Rattle.felm_meaning.specs.Words.{IsEventAfter, IsChangeAfter, HasCauses, NoneWaits, IsNext}
 use Rattle.felm_meaning.proofs.Graphs.{IsOrdered}
 use Rattle.felm_meaning.proofs.Rows.{slice_get-append_left, slice_get_last, item_within, take_whole}
@@ -20,7 +21,7 @@ use Rattle.felm_meaning.proofs.Fronts.{changes-later, changes-grow, there_upto, 
 use Rattle.felm_meaning.proofs.Legal.{next-is, async_is_source, source_is_one, source_within}
 use Rattle.felm_meaning.proofs.Plain.{take-more}
 
--- an item behind a front
+-- an item after a front
 slice_get-append_right : {X : Type 0} (xs ys : List X) (i : ℕ) (x : X) → length xs ≤ i → slice_get (xs ++ ys) i ≡ Some x
     → (n : ℕ) × (i ≡ length xs + n) × (slice_get ys n ≡ Some x)
 slice_get-append_right [] ys i x l h = (i, omega arith, h)
@@ -175,4 +176,4 @@ module _ (g : GraphValue) (budget : ℕ) where
   unfolding next
   concluded script j done ok legal sent settled none used =
       completed script j ok legal (λ k l. sent k (length j) l (settled k l)) (λ k l. sent k 0 l (omega arith))
-      (ap (λ (o : Option Event). first_of o (slice_get script (length (inputs_in g j)))) none ∙ slice_get_past script (length (inputs_in g j)) used)
+      (ap (λ (o : Option Event). option_or o (slice_get script (length (inputs_in g j)))) none ∙ slice_get_past script (length (inputs_in g j)) used)

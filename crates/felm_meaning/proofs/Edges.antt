@@ -3,11 +3,12 @@ use Rattle.std.proofs.Common.{◌≡◌, ℕ, suc, zero, ◌+◌, ◌-◌, ◌<�
 use Rattle.std.specs.List.{slice_get}
 use Rattle.std.proofs.lemmas.Bool.{cases_eq}
 use Rattle.std.proofs.lemmas.List.{length-append}
+use Rattle.std.specs.Option.{option_to_list}
 use Rattle.felm_term.specs.declared.message.Message.{Message}
 use Rattle.felm_term.specs.declared.event.Event.{Event}
 use Rattle.felm_graph.specs.GraphValue.{GraphValue}
 use Rattle.felm_graph.specs.Graphs.{IsGraph}
-use Rattle.felm_meaning.specs.Meaning.{msg, val, value_at, sends, sent_in, edge, IsThere, row}
+use Rattle.felm_meaning.specs.Meaning.{msg, val, value_at, sends, edge, IsThere, row}
 use Rattle.felm_meaning.specs.Laws.{DefaultsThere}
 use Rattle.felm_meaning.proofs.Graphs.{ordered}
 use Rattle.felm_meaning.proofs.Rows.{slice_get-append_left, slice_get_last, msg-take}
@@ -26,8 +27,8 @@ module _ (g : GraphValue) (budget : ℕ) (j : List Event) where
   length-sends k (suc w) h =
       let m = h w (omega arith) in
       let ih : length (sends g budget j k w) ≡ w = length-sends k w (λ p l. h p (omega arith)) in
-      let e : length (sends g budget j k w ++ sent_in (msg g budget j k (suc w))) ≡ length (sends g budget j k w ++ m.0 ∷ []) =
-      ap (λ (o : Option Message). length (sends g budget j k w ++ sent_in o)) m.1 in
+      let e : length (sends g budget j k w ++ option_to_list (msg g budget j k (suc w))) ≡ length (sends g budget j k w ++ m.0 ∷ []) =
+      ap (λ (o : Option Message). length (sends g budget j k w ++ option_to_list o)) m.1 in
       e ∙ (length-append (sends g budget j k w) (m.0 ∷ []) ∙ (let r : length (sends g budget j k w) + 1 ≡ suc w = omega arith in r))
 
   sent-at : (k w i : ℕ) → ((p : ℕ) → p < w → IsThere (msg g budget j k (suc p))) → i < w → slice_get (sends g budget j k w) i ≡ msg g budget j k (suc i)
@@ -39,14 +40,14 @@ module _ (g : GraphValue) (budget : ℕ) (j : List Event) where
       front = length-sends k w (λ p u. h p (omega arith))
 
       go : (i ≡ w) ⊎ (i ≡ w → ⊥) → (i < w → slice_get (sends g budget j k w) i ≡ msg g budget j k (suc i))
-          → slice_get (sends g budget j k w ++ sent_in (msg g budget j k (suc w))) i ≡ msg g budget j k (suc i)
+          → slice_get (sends g budget j k w ++ option_to_list (msg g budget j k (suc w))) i ≡ msg g budget j k (suc i)
       go (inr n) ih =
           let u : i < w = omega arith in
-          slice_get-append_left (sends g budget j k w) (sent_in (msg g budget j k (suc w))) i (omega (arith, front)) ∙ ih u
+          slice_get-append_left (sends g budget j k w) (option_to_list (msg g budget j k (suc w))) i (omega (arith, front)) ∙ ih u
       go (inl e) ih =
           let m = h w (omega arith) in
           let s : length (sends g budget j k w) ≡ i = omega (arith, front) in
-          ap (λ (o : Option Message). slice_get (sends g budget j k w ++ sent_in o) i) m.1 ∙
+          ap (λ (o : Option Message). slice_get (sends g budget j k w ++ option_to_list o) i) m.1 ∙
           (ap (slice_get (sends g budget j k w ++ m.0 ∷ [])) (sym s) ∙
           (slice_get_last (sends g budget j k w) m.0 ∙ (sym m.1 ∙ ap (λ (x : ℕ). msg g budget j k (suc x)) (sym e))))
 

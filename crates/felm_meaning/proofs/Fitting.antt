@@ -23,7 +23,7 @@ use Rattle.felm_graph.specs.Layout.{input_node, inputs_from, input_nodes}
 use Rattle.felm_graph.specs.Nodes.{types_of, arguments_of_kind, arguments_of}
 use Rattle.felm_meaning.specs.declared.job.Job.{Job}
 use Rattle.felm_meaning.specs.Nodes.{is_input_kind, is_input, inner_of_kind, inner, job_of_kind, job_of}
-use Rattle.felm_meaning.specs.Events.{has_type, fits, all_fit}
+use Rattle.felm_term.specs.Events.{has_type, fits, all_fit}
 use Rattle.felm_meaning.specs.Meaning.{all_of, value_at, msg, val}
 use Rattle.felm_meaning.specs.Journals.{inputs_in, entered, NamesInputs, IsLegal}
 use Rattle.felm_meaning.specs.Types.{EventsFit, TurnFits}

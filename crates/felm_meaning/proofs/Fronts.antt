@@ -120,7 +120,7 @@ module _ (g : GraphValue) (budget : ℕ) where
       let e : p + suc n ≡ suc (p + n) = omega arith in
       (ih.0 ++ changed_in (msg g budget j k (suc (p + n))), rw (e, ih.1) (append_assoc (changes g budget j k p) ih.0 (changed_in (msg g budget j k (suc (p + n))))))
 
-  -- later positions have these changes, and others behind them
+  -- later positions have these changes, and others after them
   pub changes-upto : (j : List Event) (k p q : ℕ) → p ≤ q → (rest : List Value) × (changes g budget j k q ≡ changes g budget j k p ++ rest)
   changes-upto j k p q h =
       let r = changes-more j k p (q - p) in

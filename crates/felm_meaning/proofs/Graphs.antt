@@ -47,7 +47,7 @@ declared_at (d ∷ more) number zero z n e h =
     let s : z ≡ number = omega arith in (d, refl, ap (λ m. input_node m d) s ∙ same_Some (input_node number d) n h)
 declared_at (d ∷ more) number (suc k) z n e h = declared_at more (suc number) k z n (omega arith) h
 
--- each node is a declared input, or fits behind those before it
+-- each node is a declared input, or fits after those before it
 pub node_fits : (g : GraphValue) (k : ℕ) (n : Node) → IsGraph g → slice_get g.nodes k ≡ Some n → IsDeclared g.inputs k n ⊎ FitsBehind (take k g.nodes) n
 node_fits g k n h e =
     let i = input_nodes g.inputs in

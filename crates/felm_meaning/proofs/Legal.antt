@@ -1,6 +1,7 @@
--- What comes next behind a journal, and that it keeps a journal legal.
+-- What comes next after a journal, and that it keeps a journal legal.
 use Rattle.std.proofs.Common.{◌≡◌, ℕ, suc, zero, ◌+◌, ◌<◌, ◌≤◌, ◌⊎◌, inl, inr, Bool, true, false, cond, Option, Some, None, List, [], ◌∷◌, ◌++◌, length, take, refl, sym, ap, ◌∙◌, subst, arith, append_assoc}
 use Rattle.std.specs.List.{slice_get, filter}
+use Rattle.std.specs.Option.{option_or}
 use Rattle.std.specs.Option.{option_map_or, option_and_then}
 use Rattle.std.proofs.lemmas.Option.{none-some, same_Some, slice_get_within}
 use Rattle.std.proofs.lemmas.Bool.{cases_eq, cases_lt, false≢true}
@@ -15,7 +16,7 @@ use Rattle.felm_graph.specs.GraphValue.{GraphValue}
 use Rattle.felm_graph.specs.Nodes.{is_source_kind, is_source}
 use Rattle.felm_meaning.specs.Nodes.{is_input_kind, is_input, inner_of_kind, inner}
 use Rattle.felm_meaning.specs.Meaning.{changes}
-use Rattle.felm_meaning.specs.Journals.{inputs_in, entered, IsCaused, IsLegal, NamesInputs, waiting, event_at, first_of, first_waiting, next}
+use Rattle.felm_meaning.specs.Journals.{inputs_in, entered, IsCaused, IsLegal, NamesInputs, waiting, event_at, first_waiting, next}
 use Rattle.felm_meaning.specs.Words.{IsWaiting, NoneWaits, IsNext}
 use Rattle.felm_meaning.proofs.Rows.{slice_get-append_left, slice_get_last, take_front, take_whole, item_within}
 use Rattle.felm_meaning.proofs.Fronts.{changes-prefix}
@@ -87,7 +88,7 @@ unfolding inputs_in
 inputs-more g j e h =
     filter-append (λ x. is_input g.nodes x.source) j (e ∷ []) ∙ ap (λ (t : Bool). filter (λ x. is_input g.nodes x.source) j ++ cond t (e ∷ []) []) h
 
--- a list's item and what comes behind it
+-- a list's item and what comes after it
 split_at : {X : Type 0} (xs ys : List X) (x : X) → slice_get (xs ++ ys) (length xs) ≡ Some x → (rest : List X) × (ys ≡ x ∷ rest)
 split_at [] [] x h = absurd (none-some x h)
 split_at [] (y ∷ ys) x h = (ys, ap (λ (z : _). z ∷ ys) (same_Some y x h))
@@ -122,7 +123,7 @@ module _ (g : GraphValue) (budget : ℕ) where
   first_waiting-none j zero h = λ a l w. absurd (omega arith)
   first_waiting-none j (suc n) h = go (first_waiting g budget j n) (waiting g budget j n) refl refl h (first_waiting-none j n)
     where
-      go : (o : Option Event) (v : Option Value) → first_waiting g budget j n ≡ o → waiting g budget j n ≡ v → first_of o (event_at n v) ≡ None
+      go : (o : Option Event) (v : Option Value) → first_waiting g budget j n ≡ o → waiting g budget j n ≡ v → option_or o (event_at n v) ≡ None
           → (first_waiting g budget j n ≡ None → NoneWaits g budget j n) → NoneWaits g budget j (suc n)
       go (Some d) v p q r ih = absurd (none-some d (sym r))
       go None (Some v) p q r ih = absurd (none-some _ (sym r))
@@ -139,7 +140,7 @@ module _ (g : GraphValue) (budget : ℕ) where
   first_waiting-some j zero e h = absurd (none-some e h)
   first_waiting-some j (suc n) e h = go (first_waiting g budget j n) (waiting g budget j n) refl refl h (first_waiting-some j n e)
     where
-      go : (o : Option Event) (v : Option Value) → first_waiting g budget j n ≡ o → waiting g budget j n ≡ v → first_of o (event_at n v) ≡ Some e
+      go : (o : Option Event) (v : Option Value) → first_waiting g budget j n ≡ o → waiting g budget j n ≡ v → option_or o (event_at n v) ≡ Some e
           → (first_waiting g budget j n ≡ Some e → (waiting g budget j e.source ≡ Some e.value) × NoneWaits g budget j e.source)
           → (waiting g budget j e.source ≡ Some e.value) × NoneWaits g budget j e.source
       go (Some d) v p q r ih = ih (p ∙ r)
@@ -157,7 +158,7 @@ module _ (g : GraphValue) (budget : ℕ) where
   next-is script j = go (first_waiting g budget j (length g.nodes)) refl (slice_get script (length (inputs_in g j))) refl
     where
       go : (o : Option Event) → first_waiting g budget j (length g.nodes) ≡ o → (s : Option Event) → slice_get script (length (inputs_in g j)) ≡ s
-          → IsNext g budget script j (first_of o s)
+          → IsNext g budget script j (option_or o s)
       go (Some e) p s q =
           let f = first_waiting-some j (length g.nodes) e p in
           let w = waiting-some j e.source e.value f.0 in

@@ -9,7 +9,7 @@ use Rattle.felm_term.specs.declared.event.Event.{Event}
 use Rattle.felm_graph.specs.GraphValue.{GraphValue}
 use Rattle.felm_meaning.specs.Meaning.{at, row, msg, IsThere}
 use Rattle.felm_meaning.specs.Journals.{IsLegal, NamesInputs, AllThere, IsLeastNone, next, all_there, with_event, grown, plain_journal}
-use Rattle.felm_meaning.specs.Words.{CameNext, IsPlain}
+use Rattle.felm_meaning.specs.Words.{CameNext, IsPlainJournal}
 use Rattle.felm_meaning.proofs.Rows.{slice_get-append_left, slice_get_last, take_front, take_whole, item_within, length-row}
 use Rattle.felm_meaning.proofs.Legal.{legal-nothing, legal-next}
 
@@ -177,7 +177,7 @@ module _ (g : GraphValue) (budget : ℕ) where
           let m : length (j ++ e ∷ []) ≡ length j = ap length s in
           absurd (omega arith)
 
-  pub plain-is : (script : List Event) (limit : ℕ) → IsPlain g budget script limit (plain_journal g budget script limit)
+  pub plain-is : (script : List Event) (limit : ℕ) → IsPlainJournal g budget script limit (plain_journal g budget script limit)
   plain-is script limit =
       let j = plain_journal g budget script limit in
       record { steps = plain-came script limit; ends = λ h l. go j (next g budget script j) refl h l (plain-stops script limit) }
@@ -192,7 +192,7 @@ module _ (g : GraphValue) (budget : ℕ) where
           absurd (omega arith)
 
   -- no other journal does
-  pub plain-only : (script j : List Event) (limit : ℕ) → IsPlain g budget script limit j → j ≡ plain_journal g budget script limit
+  pub plain-only : (script j : List Event) (limit : ℕ) → IsPlainJournal g budget script limit j → j ≡ plain_journal g budget script limit
   plain-only script j limit p =
       plain-here script j limit p.steps (go (cases_lt (length j) limit) (all_there (row g budget j (length j))) refl)
     where

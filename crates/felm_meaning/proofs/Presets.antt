@@ -49,7 +49,7 @@ lift_default inputs b vs kd f arguments places e p h =
     (sym (ap (λ (o : Option (List Value)). option_and_then (λ values. call_value f values b) o) (chosen vs arguments l.0)) ∙
     ap (default_by inputs b (slice_get vs)) (sym e))
 
--- ---- behind the nodes whose defaults are known
+-- ---- after the nodes whose defaults are known
 
 taken_all : (nodes : List Node) (k : ℕ) (p : CoreType) (arguments : List ℕ) (r : CoreType) → TakesValues (types_of (take k nodes)) p arguments r
     → (j d : ℕ) → j < length arguments → get_or arguments j d < k

@@ -35,7 +35,7 @@ use Rattle.felm_meaning.specs.declared.job.Job.{Job}
 use Rattle.felm_meaning.specs.declared.job.Job.TheVariants as job
 use Rattle.felm_meaning.specs.Nodes.{job_of_kind, job_of}
 use Rattle.felm_meaning.specs.Step.{is_change, call_value, change_of, foldp_step, step}
-use Rattle.felm_meaning.specs.Meaning.{all_of, at, first_value, declared_value, default_by, defaults_to, no_change_of, value_at, source_message, turn_message, msg, val}
+use Rattle.felm_meaning.specs.Meaning.{all_of, at, default_of_type, declared_value, default_by, defaults_to, no_change_of, value_at, source_message, turn_message, msg, val}
 use Rattle.felm_meaning.specs.Types.{EventsFit, Takes, CallFits, JobFits}
 use Rattle.felm_meaning.proofs.Graphs.{IsDeclared, ordered, node_fits, type_found}
 use Rattle.felm_meaning.proofs.Rows.{item_within, msg-source, msg-inner, there_within}
@@ -166,7 +166,7 @@ default_typed g b k n part v (inl d) fit e =
     let s : declared_value d.0 ≡ v = same_Some (declared_value d.0) v (sym (ap (λ (o : Option InputDecl). option_map declared_value o) d.1) ∙ q) in
     subst (λ (m : Node). IsOfType m.ty v) d.2 (subst (λ (x : Value). IsOfType (values_type d.0.ty) x) s (declared_typed d.0.ty d.0.default))
   where
-    declared_typed : (t : InputTy) (z : _) → IsOfType (values_type t) (first_value t z)
+    declared_typed : (t : InputTy) (z : _) → IsOfType (values_type t) (default_of_type t z)
     declared_typed input.Int z = (tt, refl)
     declared_typed input.Unit z = (tt, refl)
 default_typed g b k n part v (inr f) fit e = go n.kind f.0 e

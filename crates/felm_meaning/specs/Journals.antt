@@ -1,7 +1,7 @@
 -- Journals: which are legal, which are complete, and the plain one, of a run on one thread.
 use Rattle.std.specs.Prelude.{◌≡◌, ℕ, zero, suc, ◌<◌, ◌≤◌, ◌==◌, Bool, true, is_some, if◌then◌else◌, List, [], ◌∷◌, ◌++◌, Option, Some, None, length, take, filter, count_by, slice_get}
 use Rattle.std.specs.List.{list_all}
-use Rattle.std.specs.Option.{option_map, option_and_then}
+use Rattle.std.specs.Option.{option_map, option_and_then, option_or}
 use Rattle.felm_term.specs.declared.value.Value.{Value}
 use Rattle.felm_term.specs.declared.message.Message.{Message}
 use Rattle.felm_term.specs.declared.event.Event.{Event}
@@ -56,19 +56,14 @@ waiting g b j a = option_and_then (λ x. slice_get (changes g b j x (length j)) 
 abbrev pub event_at : ℕ → Option Value → Option Event
 event_at a value = option_map (λ v. record { source = a; value = v }) value
 
--- the first of the two that is there
-abbrev pub first_of : Option Event → Option Event → Option Event
-first_of None e = e
-first_of (Some d) e = Some d
-
 -- the event of the least async that waits among the first n nodes
 unfoldable pub first_waiting : GraphValue → ℕ → List Event → ℕ → Option Event
 first_waiting g b j zero = None
-first_waiting g b j (suc n) = first_of (first_waiting g b j n) (event_at n (waiting g b j n))
+first_waiting g b j (suc n) = option_or (first_waiting g b j n) (event_at n (waiting g b j n))
 
 -- the next event: that of the least async that waits, else the next one of the script, else none
 unfoldable pub next : GraphValue → ℕ → List Event → List Event → Option Event
-next g b script j = first_of (first_waiting g b j (length g.nodes)) (slice_get script (length (inputs_in g j)))
+next g b script j = option_or (first_waiting g b j (length g.nodes)) (slice_get script (length (inputs_in g j)))
 
 -- every message at the journal's last position is there; every default, where it is empty
 abbrev pub AllThere : GraphValue → ℕ → List Event → Type 0

@@ -9,11 +9,11 @@ use Rattle.felm_graph.specs.Graphs.{IsOfType, IsGraph}
 use Rattle.felm_meaning.specs.Nodes.{inner, job_of}
 use Rattle.felm_meaning.specs.declared.job.Job.{Job}
 use Rattle.felm_graph.specs.Nodes.{arguments_of}
-use Rattle.felm_meaning.specs.Events.{all_fit}
+use Rattle.felm_term.specs.Events.{all_fit}
 use Rattle.felm_meaning.specs.Step.{call_value}
 use Rattle.felm_meaning.specs.Meaning.{all_of, msg, val, changes, edge, IsThere}
 use Rattle.felm_meaning.specs.Journals.{entered, IsCaused, IsLegal, IsComplete, NamesInputs, AllThere, next, plain_journal}
-use Rattle.felm_meaning.specs.Words.{IsCall, IsMeaning, HasCauses, IsNext, IsPlain}
+use Rattle.felm_meaning.specs.Words.{IsCall, IsMeaning, HasCauses, IsNext, IsPlainJournal}
 use Rattle.felm_meaning.specs.Types.{EventsFit, TurnFits}
 
 -- every default is there
@@ -44,7 +44,7 @@ PrefixesAreEnough =
     (g : GraphValue) (b : ℕ) (j : List Event) (k p q : ℕ) → p ≤ q
     → (msg g b j k p ≡ msg g b (take q j) k p) × (val g b j k p ≡ val g b (take q j) k p)
 
--- where every default is there, a node has messages up to some position and none behind it
+-- where every default is there, a node has messages up to some position and none after it
 abbrev pub NoneFollowsNone : Type 0
 NoneFollowsNone =
     (g : GraphValue) (b : ℕ) (j : List Event) (k p q : ℕ) → IsGraph g → DefaultsThere g b → k < length g.nodes → p ≤ q
@@ -96,12 +96,12 @@ NextIsTheLeast = (g : GraphValue) (b : ℕ) (script j : List Event) → IsNext g
 
 -- the plain journal grows while it can, and no longer
 abbrev pub PlainJournalGrows : Type 0
-PlainJournalGrows = (g : GraphValue) (b : ℕ) (script : List Event) (limit : ℕ) → IsPlain g b script limit (plain_journal g b script limit)
+PlainJournalGrows = (g : GraphValue) (b : ℕ) (script : List Event) (limit : ℕ) → IsPlainJournal g b script limit (plain_journal g b script limit)
 
 -- no other journal does
 abbrev pub OnlyThePlainJournalDoes : Type 0
 OnlyThePlainJournalDoes =
-    (g : GraphValue) (b : ℕ) (script j : List Event) (limit : ℕ) → IsPlain g b script limit j → j ≡ plain_journal g b script limit
+    (g : GraphValue) (b : ℕ) (script j : List Event) (limit : ℕ) → IsPlainJournal g b script limit j → j ≡ plain_journal g b script limit
 
 -- the plain journal of a script for inputs is legal
 abbrev pub PlainJournalIsLegal : Type 0

@@ -10,7 +10,6 @@ pub mod Turns
 pub mod TurnInside
 pub mod Outcomes
 pub mod DoneInside
-pub mod Events
 pub mod Plans
 pub mod Values
 pub mod Presets

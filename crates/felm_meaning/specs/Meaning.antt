@@ -1,7 +1,7 @@
 -- The synchronous meaning: the value and the message of every node at every position of a journal.
 -- Positions count from 1; position 0 is before the first event. The messages of all nodes at a position are one row.
 use Rattle.std.specs.Prelude.{◌≡◌, ℕ, zero, suc, ◌==◌, if◌then◌else◌, List, [], ◌∷◌, ◌++◌, Option, Some, None, length, map, drop, slice_get, slice_index_or, ℤ}
-use Rattle.std.specs.Option.{option_map, option_and_then}
+use Rattle.std.specs.Option.{option_map, option_and_then, option_to_list}
 use Rattle.felm_term.specs.Values.{value_of}
 use Rattle.felm_term.specs.declared.value.Value.{Value}
 use Rattle.felm_term.specs.declared.value.Value.TheVariants as value
@@ -33,13 +33,13 @@ at row k = slice_index_or row k None
 -- ---- defaults
 
 -- the value that an input declares, which is unit for an input of type unit
-abbrev pub first_value : InputTy → ℤ → Value
-first_value input.Int number = value.Int number
-first_value input.Unit number = value.Unit
+abbrev pub default_of_type : InputTy → ℤ → Value
+default_of_type input.Int number = value.Int number
+default_of_type input.Unit number = value.Unit
 
 -- the same of a declaration
 abbrev pub declared_value : InputDecl → Value
-declared_value declared = first_value declared.ty declared.default
+declared_value declared = default_of_type declared.ty declared.default
 
 -- the default of a node, by the defaults of the nodes that it names
 abbrev pub default_by : List InputDecl → ℕ → (ℕ → Option Value) → NodeKind → Option Value
@@ -120,16 +120,11 @@ unfoldable pub changes : GraphValue → ℕ → List Event → ℕ → ℕ → L
 changes g b j k zero = []
 changes g b j k (suc p) = changes g b j k p ++ changed_in (msg g b j k (suc p))
 
--- a message that is there
-abbrev pub sent_in : Option Message → List Message
-sent_in None = []
-sent_in (Some m) = m ∷ []
-
 -- the messages of node k at positions 1 to w, in order
 unfoldable pub sends : GraphValue → ℕ → List Event → ℕ → ℕ → List Message
 sends g b j k zero = []
-sends g b j k (suc w) = sends g b j k w ++ sent_in (msg g b j k (suc w))
+sends g b j k (suc w) = sends g b j k w ++ option_to_list (msg g b j k (suc w))
 
--- the contents of an edge: the messages of node k behind position r, up to position w
+-- the contents of an edge: the messages of node k after position r, up to position w
 abbrev pub edge : GraphValue → ℕ → List Event → ℕ → ℕ → ℕ → List Message
 edge g b j k r w = drop r (sends g b j k w)

@@ -75,19 +75,19 @@ IsLeastWaiting g b j e =
     (x : ℕ) × (inner g.nodes e.source ≡ Some x) × (slice_get (changes g b j x (length j)) (entered j e.source) ≡ Some e.value)
     × NoneWaits g b j e.source
 
--- what comes next behind a journal: the event of the least async that waits; else the script's next; else nothing
+-- what comes next after a journal: the event of the least async that waits; else the script's next; else nothing
 abbrev pub IsNext : GraphValue → ℕ → List Event → List Event → Option Event → Type 0
 IsNext g b script j (Some e) =
     IsLeastWaiting g b j e ⊎ (NoneWaits g b j (length g.nodes) × (slice_get script (length (inputs_in g j)) ≡ Some e))
 IsNext g b script j None = NoneWaits g b j (length g.nodes) × (length script ≤ length (inputs_in g j))
 
--- each event came next behind those before it, while every message was there and the journal was below its limit
+-- each event came next after those before it, while every message was there and the journal was below its limit
 abbrev pub CameNext : GraphValue → ℕ → List Event → ℕ → List Event → Type 0
 CameNext g b script limit j =
     (n : ℕ) (e : Event) → slice_get j n ≡ Some e
     → AllThere g b (take n j) × (n < limit) × (next g b script (take n j) ≡ Some e)
 
 -- a journal that grew while it could, and no longer
-pub record IsPlain (g : GraphValue) (b : ℕ) (script : List Event) (limit : ℕ) (j : List Event) : Type 0 where
+pub record IsPlainJournal (g : GraphValue) (b : ℕ) (script : List Event) (limit : ℕ) (j : List Event) : Type 0 where
   pub steps : CameNext g b script limit j
   pub ends : AllThere g b j → length j < limit → next g b script j ≡ None

@@ -1,5 +1,5 @@
 ghost use Rattle.std.specs.Prelude.{◌≡◌, IsTrue, IfOk};
-ghost use Rattle.felm_meaning.specs.Events.{all_fit};
+ghost use Rattle.felm_term.specs.Events.{all_fit};
 
 use crate::copies::{copy_events, copy_graph};
 use felm_graph::Graph;

@@ -3,7 +3,7 @@ ghost use Rattle.std.specs.Prelude.{◌≡◌, IfOk, IsTrue, []};
 ghost use Rattle.felm_term.specs.Inputs.{signal_types, values_type};
 ghost use Rattle.felm_term.specs.Reduction.{IsValue, IsSignalTerm, AreSignalTerms, IsFinished};
 ghost use Rattle.felm_graph.specs.FinishedPair.{IsTyped};
-ghost use Rattle.felm_meaning.specs.Events.{has_type, fits, all_fit};
+ghost use Rattle.felm_term.specs.Events.{has_type, fits, all_fit};
 
 use crate::Plan;
 use felm_graph::{Finished, Graph, Laid, layout};
