@@ -3,6 +3,7 @@ pub mod Step
 pub mod Meaning
 pub mod Journals
 pub mod Words
+pub mod Ends
 pub mod Types
 pub mod Laws
 pub mod Instances
