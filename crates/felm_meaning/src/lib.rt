@@ -16,6 +16,7 @@ mod tests;
 mod turn;
 mod turn_inputs;
 
+pub use call::{call_among, call_on_two};
 pub use done::{Done, compute};
 pub use equality::same_plan;
 pub use history::{History, RunEnd};

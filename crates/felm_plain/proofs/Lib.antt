@@ -1,0 +1,4 @@
+pub mod Rows
+pub mod Waits
+pub mod Runs
+pub mod EndLaws
