@@ -1,0 +1,17 @@
+use Rattle.std.proofs.Common.{◌≡◌, ◌<◌, length, vec_len, arith, string_bytes, refl, ◌∙◌, sym}
+use Rattle.felm_printer.specs.Results.{source_text}
+use Rattle.felm_printer.proofs.SourceTables.{texts_count, text_read, source_within}
+use Rattle.felm_printer.proofs.Lines.{stopped_more}
+use Rattle.felm_printer.proofs.result.stopped_text.Goals as goal
+
+pub index-source-requires : goal.index-source-requires
+index-source-requires c =
+    let within = source_within c.args.plan.now.graph.nodes c.at-event.result.now.source (c.requires c.loop-index.index c.at-event.result.now c.at-event.ensures) in
+    let counted : vec_len c.in_ok-sources.sources ≡ length c.in_ok-sources.sources.items = omega arith in
+    omega (arith, within, counted, texts_count string_bytes c.args.plan.now.graph c.in_ok-sources.sources.items c.in_ok-sources.ensures)
+
+pub loop-index-preserved : goal.loop-index-preserved
+loop-index-preserved c =
+    let within = source_within c.args.plan.now.graph.nodes c.at-event.result.now.source (c.requires c.loop-index.index c.at-event.result.now c.at-event.ensures) in
+    let named = c.as_str.ensures.value ∙ text_read string_bytes c.args.plan.now.graph c.in_ok-sources.sources.items c.at-event.result.now.source c.index-source.result.now c.in_ok-sources.ensures within c.index-source.ensures in
+    stopped_more c.args.plan.now.graph _ _ _ _ _ c.loop-index.index c.args.journal.now.items _ c.at-event.ensures named c.in_ok-push_stopped.ensures c.loop-index.invariant

@@ -1,0 +1,6 @@
+pub mod Status
+pub mod Fault
+pub mod Results
+pub mod Sources
+pub mod Terms
+pub mod Graphs
