@@ -1,8 +1,10 @@
-//! `felm sync PROGRAM SCRIPT` runs a program on a script of events and prints what it says.
+//! `felm sync PROGRAM SCRIPT` runs a program on a script of events and prints what it says, and
+//! `felm graph PROGRAM` prints the graph of its signals.
 #![tactic(auto)]
 
 use felm_cli::{Status, felm_once, put_fault};
 use felm_io::{DiskFiles, StreamSink};
+use felm_term::Limits;
 use std::process::ExitCode;
 use std::{env, io, rt};
 
@@ -26,7 +28,7 @@ fn main(rt: HostRuntime) -> ExitCode {
             felm_once(rt.alloc(), words.as_slice(), &mut files, &mut out, &mut err)
         }
         Err(status) => {
-            let _ = put_fault(&status, "", &mut err);
+            let _ = put_fault(&status, "", &Limits::DEFAULT, &mut err);
             status
         }
     };

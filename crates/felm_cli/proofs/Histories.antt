@@ -1,47 +1,48 @@
--- The text of the run of a plan.
-use Rattle.std.proofs.Common.{◌≡◌, ℕ, suc, zero, ◌&&◌, Bool, true, false, List, [], ◌∷◌, length, take, refl, sym, ap, ◌∙◌}
-use Rattle.std.specs.Prelude.{nat_lt}
-use Rattle.std.specs.List.{list_all}
-use Rattle.felm_sources.specs.declared.plan.Plan.{Plan}
-use Rattle.felm_sources.specs.declared.plan.History.{History}
-use Rattle.felm_sources.specs.Events.{all_fit, all_of_inputs}
-use Rattle.felm_sources.specs.Meaning.{messages_of, default_of}
-use Rattle.felm_sources.specs.Journals.{plain_journal}
-use Rattle.felm_sources.proofs.Messages.{length-messages_after}
-use Rattle.felm_sources.proofs.Journals.{plain_is_front, fit_of_inputs}
-use Rattle.felm_cli.specs.History.{IsRun}
-use Rattle.felm_cli.specs.Plans.{planned}
-use Rattle.felm_cli.specs.Text.{history_text, plan_text}
+-- The history of a run: that its text can be made, and which one it is.
+use Rattle.std.proofs.Common.{◌≡◌, ℕ, suc, ◌+◌, ◌<◌, ◌≤◌, List, Some, length, refl, sym, ap, ◌∙◌, subst, arith}
+use Rattle.felm_term.specs.declared.event.Event.{Event}
+use Rattle.felm_term.specs.declared.message.Message.{Message}
+use Rattle.felm_term.specs.declared.value.Value.{Value}
+use Rattle.felm_graph.specs.GraphValue.{GraphValue}
+use Rattle.felm_graph.specs.Graphs.{IsGraph}
+use Rattle.felm_meaning.specs.declared.history.History.{History}
+use Rattle.felm_meaning.specs.declared.history.RunEnd.TheVariants.{Complete, Full}
+use Rattle.felm_meaning.specs.Meaning.{msg, val, sends, IsThere}
+use Rattle.felm_meaning.specs.Journals.{NamesInputs, plain_journal}
+use Rattle.felm_meaning.proofs.Plain.{plain-legal}
+use Rattle.felm_meaning.proofs.Edges.{edge-holds}
+use Rattle.felm_plain.specs.Ends.{IsHistory, IsEndOf}
+use Rattle.felm_printer.specs.declared.result.Closing.{Closing}
+use Rattle.felm_printer.specs.Results.{NamesSources, history_text, result_text}
+use Rattle.felm_cli.proofs.RunEnds.{complete_journal, full_journal}
 
--- what all items pass, those of a front pass
-list_all-take : {X : Type 0} (p : X → Bool) (n : ℕ) (xs : List X) → list_all p xs ≡ true → list_all p (take n xs) ≡ true
-list_all-take p zero xs h = refl
-list_all-take p (suc n) [] h = refl
-list_all-take p (suc n) (x ∷ xs) h =
-    (elim (p x) as (λ b. p x ≡ b → b && list_all p xs ≡ true → b && list_all p (take n xs) ≡ true) [
-      | true ↦ λ e g. list_all-take p n xs g
-      | false ↦ λ e g. cc
-    ]) refl h
+module _ (g : GraphValue) (b : ℕ) (script : List Event) (limit : ℕ) where
+  abbrev j : List Event
+  j = plain_journal g b script limit
 
-pub journal_fits : (plan : Plan) (history : History) → all_fit plan.inputs.items plan.script.items ≡ true → IsRun plan history
-    → all_of_inputs plan.inputs.items history.journal.items ≡ true
-journal_fits plan history fit run =
-    ap (all_of_inputs plan.inputs.items) (run.journal ∙ plain_is_front plan.script.items plan.limits.journal)
-    ∙ list_all-take (λ event. nat_lt event.source (length plan.inputs.items)) plan.limits.journal plan.script.items
-    (fit_of_inputs plan.inputs.items plan.script.items fit)
+  -- each event of the plain journal is of a source
+  pub sources_named : (journal : List Event) → NamesInputs g.nodes script → journal ≡ j → NamesSources g journal
+  sources_named journal named is = subst (NamesSources g) (sym is) (plain-legal g b script limit named).sources
 
-pub one_each : (plan : Plan) (history : History) → IsRun plan history → length history.outputs.items ≡ length history.journal.items
-one_each plan history run =
-    ap length run.outputs
-    ∙ length-messages_after plan.inputs.items (plain_journal plan.script.items plan.limits.journal) plan.main 0 (length (plain_journal plan.script.items plan.limits.journal))
-    ∙ sym (ap length run.journal)
+  one_message_each : (k : ℕ) → ((p : ℕ) → p ≤ length j → IsThere (msg g b j k p)) → length (sends g b j k (length j)) ≡ length j
+  one_message_each k there =
+      let held = edge-holds g b j k 0 (length j) (omega arith) (λ p l. there (suc p) (omega arith)) in
+      omega (arith, held.0)
 
-pub text_is : (plan : Plan) (history : History) → plan.limits.journal ≡ 1048576 → IsRun plan history
-    → history_text plan.inputs.items history.default history.journal.items history.outputs.items ≡ plan_text (planned plan)
-text_is plan history limit run =
-    let inputs = plan.inputs.items in
-    let journal = plain_journal plan.script.items plan.limits.journal in
-    ap (λ value. history_text inputs value history.journal.items history.outputs.items) run.default
-    ∙ ap (λ events. history_text inputs (default_of inputs plan.main) events history.outputs.items) run.journal
-    ∙ ap (λ messages. history_text inputs (default_of inputs plan.main) journal messages) run.outputs
-    ∙ ap (λ n. let j = plain_journal plan.script.items n in history_text inputs (default_of inputs plan.main) j (messages_of inputs j plan.main)) limit
+  -- a history has one message an event, where they are all there
+  each_of : (h : History) → IsHistory g b j h → ((p : ℕ) → p ≤ length j → IsThere (msg g b j g.main p)) → length h.outputs.items ≡ length h.journal.items
+  each_of h is there = ap length is.outputs ∙ one_message_each g.main there ∙ sym (ap length is.journal)
+
+  pub one_each_complete : (h : History) → IsGraph g → NamesInputs g.nodes script → IsEndOf g b script limit (Complete h) → length h.outputs.items ≡ length h.journal.items
+  one_each_complete h graph named end = each_of h end.0 (λ p l. (complete_journal g b script limit h graph named end).there g.main p graph.main_there l)
+
+  pub one_each_full : (h : History) → IsGraph g → NamesInputs g.nodes script → IsEndOf g b script limit (Full h) → length h.outputs.items ≡ length h.journal.items
+  one_each_full h graph named end = each_of h end.0 (λ p l. (full_journal g b script limit h graph named end).there g.main p graph.main_there l)
+
+  -- its text is that of the journal by the meaning
+  pub text_of_history : (h : History) (closing : Closing) → IsHistory g b j h
+      → history_text g (Some h.default) h.journal.items h.outputs.items closing ≡ result_text g b j closing
+  text_of_history h closing is =
+      ap (λ d. history_text g d h.journal.items h.outputs.items closing) (sym is.default)
+      ∙ ap (λ es. history_text g (val g b j g.main 0) es h.outputs.items closing) is.journal
+      ∙ ap (λ ms. history_text g (val g b j g.main 0) j ms closing) is.outputs

@@ -1,11 +1,7 @@
-pub mod Cuts
-pub mod NameTables
-pub mod Scripts
-pub mod Results
-pub mod Runs
-pub mod PlanFits
-pub mod Faults
-pub mod Prefixes
-pub mod Pieces
+pub mod Refusals
+pub mod Graphs
+pub mod RunEnds
 pub mod Histories
+pub mod Exact
 pub mod Outcomes
+pub mod Clauses

@@ -1,27 +1,24 @@
 -- What the laws of this crate say.
-use Rattle.std.specs.Prelude.{◌≡◌, ℕ, ◌<◌, List, length}
-use Rattle.felm_sources.specs.Journals.{IsComplete, plain_journal}
+use Rattle.std.specs.Prelude.{◌≡◌, ℕ, List}
 use Rattle.felm_syntax.specs.ProgramText.{IsProgramText}
 use Rattle.felm_syntax.specs.declared.program.Program.{Program}
 use Rattle.felm_types.specs.Typed.{IsTyped}
-use Rattle.felm_cli.specs.declared.status.SyntaxCause.{SyntaxCause}
-use Rattle.felm_cli.specs.declared.status.TypingCause.{TypingCause}
-use Rattle.felm_cli.specs.Plans.{Planned, HavePlan, IsSyntaxFault, IsTypingFault, default_journal_limit}
-
--- the journal of a plan of two texts is its script
-abbrev pub PlannedJournalIsTheScript : Type 0
-PlannedJournalIsTheScript =
-    (program script : List ℕ) (plan : Planned) → HavePlan program script plan → plain_journal plan.script default_journal_limit ≡ plan.script
-
--- it is complete, and the shown input is one of the declared ones
-abbrev pub PlannedJournalIsComplete : Type 0
-PlannedJournalIsComplete =
-    (program script : List ℕ) (plan : Planned) → HavePlan program script plan
-    → IsComplete plan.inputs plan.script (plain_journal plan.script default_journal_limit) × (plan.main < length plan.inputs)
+use Rattle.felm_graph.specs.GraphValue.{GraphValue}
+use Rattle.felm_printer.specs.declared.status.Status.{Status}
+use Rattle.felm_printer.specs.declared.status.SyntaxCause.{SyntaxCause}
+use Rattle.felm_printer.specs.declared.status.TypingCause.{TypingCause}
+use Rattle.felm_cli.specs.Words.{OrderValue}
+use Rattle.felm_cli.specs.Faults.{IsSyntaxFault, IsTypingFault}
+use Rattle.felm_cli.specs.Plans.{Planned, HavePlan, HasGraph}
+use Rattle.felm_cli.specs.Promises.{ComeTo, IsOneWith}
 
 -- two texts have at most one plan
 abbrev pub OnePlan : Type 0
-OnePlan = (program script : List ℕ) (one other : Planned) → HavePlan program script one → HavePlan program script other → one ≡ other
+OnePlan = (program script : List ℕ) (budget : ℕ) (one other : Planned) → HavePlan program script budget one → HavePlan program script budget other → one ≡ other
+
+-- a text has at most one graph
+abbrev pub OneGraph : Type 0
+OneGraph = (program : List ℕ) (budget : ℕ) (one other : GraphValue) → HasGraph program budget one → HasGraph program budget other → one ≡ other
 
 -- a text with a fault is no program
 abbrev pub FaultyTextsAreNoPrograms : Type 0
@@ -31,3 +28,8 @@ FaultyTextsAreNoPrograms = (text : List ℕ) (cause : SyntaxCause) (at : ℕ) (p
 abbrev pub FaultyProgramsAreUntyped : Type 0
 FaultyProgramsAreUntyped =
     (text : List ℕ) (cause : TypingCause) (at : ℕ) (program : Program) → IsTypingFault text cause at → IsProgramText text program → IsTyped program → ⊥
+
+-- the texts of an order come to one status; where they are no program, its cause and place may differ
+abbrev pub TextsComeToOneEnd : Type 0
+TextsComeToOneEnd =
+    (order : OrderValue) (program script : List ℕ) (one other : Status) → ComeTo order program script one → ComeTo order program script other → IsOneWith one other

@@ -1,12 +1,12 @@
 //! The top call over an outside that never fails.
 ghost use Rattle.std.specs.Prelude.{◌≡◌, ◌≢◌, map, string_bytes};
+ghost use Rattle.felm_printer.specs.declared.status.Which.{Which};
 ghost use Rattle.felm_cli.specs.Words.{order_of};
 ghost use Rattle.felm_cli.specs.Outcomes.{WordsOutcome};
-ghost use Rattle.felm_cli.specs.declared.status.Which.{Which};
 
 use crate::once::felm_once;
-use crate::status::{Status, Which};
 use felm_io::{Files, Sink, SureFiles, SureSink};
+use felm_printer::{Status, Which};
 use std::alloc::Global;
 
 /// `felm_once` over `SureFiles` and a `SureSink`, which refuse nothing but for want of memory.

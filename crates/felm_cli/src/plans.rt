@@ -1,125 +1,122 @@
-//! The plan of two texts.
-ghost use Rattle.std.specs.Prelude.{◌≡◌, ◌≤◌, ◌<◌, ◌^◌, ◌+◌, length, IfOk, IfSome};
-ghost use Rattle.std.specs.List.{list_all};
-ghost use Rattle.std.specs.Option.{option_map};
-ghost use Rattle.felm_term.specs.Inputs.{names_of};
+//! The plan of two texts, and the graph of one.
+ghost use Rattle.std.specs.Prelude.{◌≡◌, ◌≤◌, ◌<◌, ◌^◌, ◌+◌, length, IfOk, OnOk, IfErr, Some, Ok, IsTrue};
+ghost use Rattle.felm_term.specs.Events.{all_fit};
+ghost use Rattle.felm_lexer.specs.Readings.{Reads as Tokenizes, Whole};
 ghost use Rattle.felm_syntax.specs.Binders.{binders};
-ghost use Rattle.felm_cli.specs.Plans.{planned, plan_of, IsTextOrFault, IsPlanOrFault, HavePlanOrFault, default_journal_limit};
-ghost use Rattle.felm_cli.specs.Script.{script_of};
-ghost use Rattle.felm_cli.specs.Shown.{is_int, are_built, shown_of};
+ghost use Rattle.felm_syntax.specs.ProgramText.{IsProgramText};
+ghost use Rattle.felm_types.specs.Typed.{IsTyped, program_term};
+ghost use Rattle.felm_script.specs.Script.{script_of};
+ghost use Rattle.felm_cli.specs.Plans.{planned, HasGraph, HavePlan, IsStagedTerm, IsProgramFault, IsCheckFault, IsEventsFault, IsTermFault, IsGraphFault, IsPlanFault, OrMemory};
 
-use crate::names::Names;
-use crate::script::read_script;
-use crate::status::Status;
-use felm_lexer::tokens;
+use crate::faults::{
+    status_of_lex_fault, status_of_parse_fault, status_of_script_fault, status_of_type_fault,
+};
+use felm_graph::Graph;
+use felm_lexer::{Token, Tokens, tokens};
+use felm_meaning::Plan;
 use felm_parser::parse;
-use felm_sources::Plan;
-use felm_syntax::{Form, Program};
-use felm_term::{InputDecl, InputTy, Inputs, Limits, Memory, Script};
-use felm_types::check;
+use felm_printer::{StageCause, Status};
+use felm_script::read_script;
+use felm_stage::{Staged, stage_one};
+use felm_syntax::Program;
+use felm_term::{Inputs, Limits, Script};
+use felm_types::{Checked, check};
 use std::alloc::Global;
 
-/// The greatest number of inputs.
-const MOST_INPUTS: usize = 16_384;
+/// The tokens of a text.
+fn read_tokens(alloc: Global, text: &[u8]) -> Result<Tokens, Status>
+    ensures tokens { IfOk result (λ tokens. Tokenizes text.now (Whole tokens.items)) }
+    ensures fault { IfErr result (OrMemory (IsProgramFault text.now)) }
+{
+    tokens(alloc, text).map_err(status_of_lex_fault)
+}
+
+/// The program that the tokens of a text are.
+fn parse_tokens(alloc: Global, text: &[u8], tokens: &[Token]) -> Result<Program, Status>
+    requires { Tokenizes text.now (Whole tokens.now) }
+    ensures program { IfOk result (IsProgramText text.now) }
+    ensures size { IfOk result (λ program. length program.inputs + binders program.main ≤ length text.now) }
+    ensures fault { IfErr result (OrMemory (IsProgramFault text.now)) }
+{
+    match parse(alloc, text, tokens) {
+        Ok(program) => Ok(program),
+        Err(fault) => Err(status_of_parse_fault(fault)),
+    }
+}
 
 /// The program of a text, before its types are checked.
 fn read_program(alloc: Global, text: &[u8]) -> Result<Program, Status>
-    ensures program { IsTextOrFault text.now result }
+    ensures program { IfOk result (IsProgramText text.now) }
     ensures size { IfOk result (λ program. length program.inputs + binders program.main ≤ length text.now) }
+    ensures fault { IfErr result (OrMemory (IsProgramFault text.now)) }
 {
-    let tokens = tokens(alloc, text)?;
-    Ok(parse(alloc, text, tokens.as_slice())?)
+    let tokens = read_tokens(alloc, text)?;
+    parse_tokens(alloc, text, tokens.as_slice())
 }
 
-fn is_int(ty: InputTy) -> bool
-    ensures { result ≡ is_int ty }
-{
-    ty == InputTy::Int
-}
-
-fn are_ints(inputs: &[InputDecl]) -> bool
-    ensures { result ≡ list_all (λ input. is_int input.ty) inputs.now }
-{
-    inputs.iter().all(|input| is_int(input.ty))
-}
-
-/// Whether programs with these inputs are built.
-fn are_built(inputs: &[InputDecl]) -> bool
-    ensures { result ≡ are_built inputs.now }
-{
-    inputs.len() <= MOST_INPUTS && are_ints(inputs)
-}
-
-/// The number of the input that a program shows, if its form is built.
-fn shown(program: &Program, inputs: &Inputs) -> Option<usize>
-    requires { inputs.now.items ≡ program.now.inputs }
-    ensures { result ≡ shown_of program.now.inputs program.now.main }
-{
-    if !are_built(inputs.as_slice()) {
-        return None;
-    }
-    match &program.main.form {
-        Form::Name(name) => program.inputs.find(name.as_str()),
-        _ => None,
-    }
-}
-
-/// The script of a text over the inputs of a program, if its form is built.
-fn script_over(alloc: Global, inputs: &Inputs, text: &[u8]) -> Result<Option<Script>, Memory>
-    requires { length inputs.now.items ≤ 16384 }
-    ensures { IfOk result (λ script. option_map (λ list. list.items) script ≡ script_of (names_of inputs.now.items) text.now) }
-{
-    match Names::of(alloc, inputs.as_slice())? {
-        Some(names) => read_script(alloc, text, &names),
-        None => unreachable!(),
-    }
-}
-
-/// The plan of a program and the text of a script, if their forms are built.
-fn plan_of(
-    alloc: Global,
-    program: &Program,
-    inputs: Inputs,
-    script: &[u8],
-) -> Result<Option<Plan>, Memory>
-    requires { inputs.items ≡ program.now.inputs }
-    ensures plan { IfOk result (λ plan. option_map planned plan ≡ plan_of program.now script.now) }
-    ensures limits { IfOk result (λ plan. IfSome plan (λ it. it.limits.journal ≡ default_journal_limit)) }
-{
-    let Some(main) = shown(program, &inputs) else {
-        return Ok(None);
-    };
-    let Some(script) = script_over(alloc, &inputs, script)? else {
-        return Ok(None);
-    };
-    Ok(Some(Plan {
-        inputs,
-        main: main as u32,
-        script,
-        limits: Limits::DEFAULT,
-    }))
-}
-
-/// The plan of a program and the text of a script, or why they have none.
-fn plan_checked(alloc: Global, program: &Program, script: &[u8]) -> Result<Plan, Status>
+/// The core term of a program, with its inputs.
+fn check_program(alloc: Global, program: &Program) -> Result<Checked, Status>
     requires inputs { length program.now.inputs < 2 ^ 31 }
     requires binders { binders program.now.main < 2 ^ 31 }
-    ensures plan { IsPlanOrFault program.now script.now result }
-    ensures limits { IfOk result (λ plan. plan.limits.journal ≡ default_journal_limit) }
+    ensures term { IfOk result (λ checked. program_term program.now ≡ Some checked.term) }
+    ensures inputs { IfOk result (λ checked. checked.inputs ≡ program.now.inputs) }
+    ensures typed { OnOk result (IsTyped program.now) }
+    ensures fault { IfErr result (OrMemory (IsCheckFault program.now)) }
 {
-    let checked = check(alloc, program)?;
-    match plan_of(alloc, program, checked.inputs, script)? {
-        Some(plan) => Ok(plan),
-        None => Err(Status::NotBuilt),
-    }
+    check(alloc, program).map_err(status_of_type_fault)
+}
+
+/// The events of a script over these inputs.
+fn read_events(alloc: Global, text: &[u8], inputs: &Inputs) -> Result<Script, Status>
+    requires { length inputs.now.items < 2 ^ 31 }
+    ensures events { IfOk result (λ script. script_of inputs.now.items text.now ≡ Ok script.items) }
+    ensures fits { IfOk result (λ script. IsTrue (all_fit inputs.now.items script.items)) }
+    ensures fault { IfErr result (OrMemory (IsEventsFault inputs.now.items text.now)) }
+{
+    read_script(alloc, text, inputs).map_err(status_of_script_fault)
+}
+
+/// The graph that a checked program reduces to.
+fn graph_of(alloc: Global, checked: &Checked, limits: &Limits) -> Result<Graph, Status>
+    ensures graph { IfOk result (IsStagedTerm checked.now.inputs checked.now.term limits.now.stage_steps) }
+    ensures fault { IfErr result (OrMemory (IsTermFault checked.now.inputs checked.now.term limits.now.stage_steps)) }
+{
+    let cause = match stage_one(alloc, checked, limits.stage_steps)? {
+        Staged::Graph { graph, .. } => return Ok(graph),
+        Staged::Over => StageCause::Over,
+        Staged::Large => StageCause::Large,
+    };
+    Err(Status::Stage { cause })
+}
+
+/// The graph of the text of a program, or why it has none.
+pub fn read_graph(alloc: Global, program: &[u8], limits: &Limits) -> Result<Graph, Status>
+    requires { length program.now ≤ 16777216 }
+    ensures graph { IfOk result (HasGraph program.now limits.now.stage_steps) }
+    ensures fault { IfErr result (OrMemory (IsGraphFault limits.now.stage_steps program.now)) }
+{
+    let read = read_program(alloc, program)?;
+    let checked = check_program(alloc, &read)?;
+    graph_of(alloc, &checked, limits)
 }
 
 /// The plan of the text of a program and the text of a script, or why they have none.
-pub fn read_plan(alloc: Global, program: &[u8], script: &[u8]) -> Result<Plan, Status>
+///
+/// The script is judged before stage one, since a wrong line costs less to find.
+pub fn read_plan(
+    alloc: Global,
+    program: &[u8],
+    script: &[u8],
+    limits: &Limits,
+) -> Result<Plan, Status>
     requires { length program.now ≤ 16777216 }
-    ensures plan { HavePlanOrFault program.now script.now result }
-    ensures limits { IfOk result (λ plan. plan.limits.journal ≡ default_journal_limit) }
+    ensures plan { IfOk result (λ plan. HavePlan program.now script.now limits.now.stage_steps (planned plan)) }
+    ensures limits { IfOk result (λ plan. plan.limits ≡ limits.now) }
+    ensures fault { IfErr result (OrMemory (IsPlanFault limits.now.stage_steps program.now script.now)) }
 {
-    let program = read_program(alloc, program)?;
-    plan_checked(alloc, &program, script)
+    let read = read_program(alloc, program)?;
+    let checked = check_program(alloc, &read)?;
+    let script = read_events(alloc, script, &checked.inputs)?;
+    let graph = graph_of(alloc, &checked, limits)?;
+    Ok(Plan::make(graph, script, *limits))
 }

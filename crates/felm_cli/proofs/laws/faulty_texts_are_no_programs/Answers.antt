@@ -1,4 +1,4 @@
-use Rattle.felm_cli.proofs.Faults.{faulty_texts}
+use Rattle.felm_cli.proofs.Refusals.{faulty_texts}
 use Rattle.felm_cli.proofs.laws.faulty_texts_are_no_programs.Goals as goal
 
 pub returns : goal.returns

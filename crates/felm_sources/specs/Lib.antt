@@ -1,4 +1,0 @@
-pub mod Events
-pub mod Meaning
-pub mod Journals
-pub mod Laws
