@@ -1,5 +1,5 @@
 -- The texts of a graph's sources, one node further, and at one node.
-use Rattle.std.proofs.Common.{◌≡◌, ℕ, ◌+◌, ◌<◌, Bool, true, false, List, [], ◌∷◌, ◌++◌, length, map, take, get_or, Option, Some, None, refl, sym, ap, ◌∙◌, arith}
+use Rattle.std.proofs.Common.{◌≡◌, ℕ, ◌+◌, ◌<◌, true, false, List, [], ◌∷◌, ◌++◌, length, map, take, get_or, Some, None, refl, sym, ap, ◌∙◌, arith}
 use Rattle.std.specs.List.{slice_get, count_by, range_with_len}
 use Rattle.std.specs.Option.{option_map, option_map_or}
 use Rattle.std.proofs.lemmas.List.{map-append, length-map}
@@ -7,13 +7,12 @@ use Rattle.std.proofs.lemmas.List.Sums.{count_by_more_yes, count_by_more_no}
 use Rattle.std.proofs.lemmas.List.FromFn.{map-range_with_len_more, length-map-range_with_len, get_or-map-range_with_len}
 use Rattle.std.proofs.lemmas.Option.{slice_get-map, slice_get_within, slice_get-get_or, slice_get_read}
 use Rattle.felm_term.specs.CoreType.{CoreType}
-use Rattle.felm_term.specs.declared.event.Event.{Event}
 use Rattle.felm_graph.specs.declared.node.Node.{Node}
 use Rattle.felm_graph.specs.declared.node.NodeKind.{NodeKind}
 use Rattle.felm_graph.specs.declared.node.NodeKind.TheVariants as kind
 use Rattle.felm_graph.specs.GraphValue.{GraphValue}
 use Rattle.felm_graph.specs.Nodes.{is_async, is_source, is_source_kind}
-use Rattle.felm_printer.specs.Results.{NamesSources, source_text}
+use Rattle.felm_printer.specs.Results.{source_text}
 use Rattle.felm_printer.specs.Sources.{text_behind, source_texts}
 
 text_of : (g : GraphValue) (k : ℕ) (ty : CoreType) (what : NodeKind) → slice_get g.nodes k ≡ Some (record { kind = what; ty = ty })

@@ -1,4 +1,4 @@
-use Rattle.std.proofs.Common.{◌≡◌, ◌+◌, ◌++◌, drop, string_bytes, Some}
+use Rattle.std.proofs.Common.{◌≡◌, ◌+◌, ◌++◌, drop, string_bytes}
 use Rattle.std.specs.Prelude.{codes}
 use Rattle.felm_term.specs.Text.{value_text}
 use Rattle.felm_printer.specs.Results.{event_lines}

@@ -1,5 +1,4 @@
-use Rattle.std.proofs.Common.{◌≡◌, ◌<◌, length, vec_len, arith, string_bytes, refl, ◌∙◌, sym}
-use Rattle.felm_printer.specs.Results.{source_text}
+use Rattle.std.proofs.Common.{◌≡◌, length, vec_len, arith, string_bytes, ◌∙◌}
 use Rattle.felm_printer.proofs.SourceTables.{texts_count, text_read, source_within}
 use Rattle.felm_printer.proofs.Lines.{stopped_more}
 use Rattle.felm_printer.proofs.result.stopped_text.Goals as goal

@@ -1,10 +1,7 @@
-use Rattle.std.proofs.Common.{◌≡◌, ◌+◌, ◌<◌, ◌≤◌, [], ◌∷◌, ◌++◌, length, take, true, false, not, map, arith, string_bytes, Some, refl, sym, ap, ◌∙◌}
-use Rattle.std.specs.List.{count_by, slice_get, range_with_len}
-use Rattle.std.proofs.lemmas.List.Sums.{count_by_more_yes, count_by_more_no}
+use Rattle.std.proofs.Common.{◌≡◌, ◌+◌, ◌<◌, length, not, map, arith, string_bytes, Some, refl, sym, ap, ◌∙◌}
+use Rattle.std.specs.List.{slice_get, range_with_len}
 use Rattle.std.proofs.lemmas.Option.{slice_get_read}
-use Rattle.felm_graph.specs.Nodes.{is_async}
 use Rattle.felm_printer.specs.Results.{source_text}
-use Rattle.felm_printer.specs.Sources.{text_behind}
 use Rattle.felm_printer.proofs.SourceTables.{text_behind_asyncs, texts_more, counted_more, counted_same}
 use Rattle.felm_printer.proofs.sources.source_texts.Goals as goal
 use Rattle.felm_printer.proofs.sources.source_texts.Goals.{then-is_async, else-is_async}
