@@ -1,4 +1,4 @@
--- The texts of an order come to one status alone.
+-- The texts of an order come to at most one status.
 use Rattle.std.proofs.Common.{◌≡◌, ℕ, true, false, List, Some, refl, sym, ap, ◌∙◌, subst}
 use Rattle.std.specs.Prelude.{Ok, Err}
 use Rattle.felm_term.specs.declared.event.Event.{Event}

@@ -29,7 +29,7 @@ abbrev pub FaultyProgramsAreUntyped : Type 0
 FaultyProgramsAreUntyped =
     (text : List ℕ) (cause : TypingCause) (at : ℕ) (program : Program) → IsTypingFault text cause at → IsProgramText text program → IsTyped program → ⊥
 
--- the texts of an order come to one status; where they are no program, its cause and place may differ
+-- the texts of an order come to at most one status; where they are no program, its cause and place may differ
 abbrev pub TextsComeToOneEnd : Type 0
 TextsComeToOneEnd =
     (order : OrderValue) (program script : List ℕ) (one other : Status) → ComeTo order program script one → ComeTo order program script other → IsOneWith one other

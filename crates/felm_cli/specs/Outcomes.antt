@@ -34,6 +34,17 @@ IsTooLong bytes (Sync program script limits) Script =
 IsTooLong bytes (Graph program limits) Program = IfSome (bytes program) (λ p. is_short p ≡ false)
 IsTooLong bytes (Graph program limits) Script = ⊥
 
+-- the bytes of an order's program are known, and too many
+abbrev pub HasLongProgram : (List ℕ → Option (List ℕ)) → OrderValue → Type 0
+HasLongProgram bytes order = IsSomeAnd (file_of Program order) (λ name. IsSomeAnd (bytes name) (λ text. is_short text ≡ false))
+
+-- the program is too long, or couldn't be loaded, or there was no memory
+abbrev pub IsOfLoad : Status → Type 0
+IsOfLoad (TooLong Program) = ⊤
+IsOfLoad (Read Program) = ⊤
+IsOfLoad Memory = ⊤
+IsOfLoad _ = ⊥
+
 -- ---- ends
 
 -- the text of an end with this status is appended
@@ -67,12 +78,12 @@ OnPut (Turn node position) P = P
 OnPut Journal P = P
 OnPut _ P = ⊤
 
--- this holds where the status says that each text was loaded, or none was to be
+-- this holds unless the status says that a load failed
 abbrev pub OnLoaded : Status → Type 0 → Type 0
 OnLoaded (Read which) P = ⊤
 OnLoaded _ P = P
 
--- this holds where something was made, or the status says so
+-- this holds where something was made, and else unless the status says that a load failed
 abbrev pub OnErrLoaded : {T : Type 0} → Result T Status → Type 0 → Type 0
 OnErrLoaded (Ok made) P = P
 OnErrLoaded (Err status) P = OnLoaded status P

@@ -77,7 +77,7 @@ abbrev pub IsOneWith : Status → Status → Type 0
 IsOneWith (Syntax cause at) status = IsSyntax status
 IsOneWith expected status = status ≡ expected
 
--- the status is the expected one, unless a load failed, a put of the text of one failed, or there was no memory
+-- the status is the expected one, unless a load failed, a put of its text failed, or there was no memory
 abbrev pub Answers : Status → Status → Type 0
 Answers expected (Read which) = ⊤
 Answers expected Write = LeavesText expected
@@ -103,7 +103,7 @@ abbrev pub JournalSuffices : Limits → Planned → Type 0
 JournalSuffices limits plan = (j : List Event) → IsLegal plan.graph limits.turn_steps plan.script j → length j ≤ limits.journal
 
 -- texts that aren't too long, and from which an order can be done whole: they have a plan, every turn is within its budget, and no
--- journal needs to be longer than the limit; of the order of a graph, there is a graph
+-- legal journal is longer than the limit; of the order of a graph, there is a graph
 abbrev pub CanBeDone : OrderValue → List ℕ → List ℕ → Type 0
 CanBeDone (Sync p s limits) program script =
     (is_short program ≡ true) × (is_short script ≡ true)

@@ -1,4 +1,4 @@
-//! Laws of what texts come to: functions without a body, each for the sake of its contract.
+//! Laws of what texts come to: functions whose body does nothing, each for the sake of its contract.
 ghost use Rattle.felm_cli.specs.Laws.{OnePlan, OneGraph, FaultyTextsAreNoPrograms, FaultyProgramsAreUntyped, TextsComeToOneEnd};
 
 /// Two texts have at most one plan.
@@ -21,7 +21,7 @@ pub fn faulty_programs_are_untyped()
     ensures { FaultyProgramsAreUntyped }
 {}
 
-/// The texts of an order come to one status; where they are no program, its cause and place may differ.
+/// The texts of an order come to at most one status; where they are no program, its cause and place may differ.
 pub fn texts_come_to_one_end()
     ensures { TextsComeToOneEnd }
 {}

@@ -1,5 +1,6 @@
 //! The top call that waits for nobody.
 ghost use Rattle.std.specs.Prelude.{length, ◌≡◌, ◌≤◌, ◌↔◌, ◌⊎◌, ℕ, List, map, string_bytes, IfOk, IfErr, IsSomeAnd, Some, None};
+ghost use Rattle.std.specs.Result.{IsErrAnd};
 ghost use Rattle.std.specs.Io.KnownBytes.{Keeps};
 ghost use Rattle.felm_io.specs.Causes.{Rose};
 ghost use Rattle.felm_printer.specs.declared.status.Status.{Status};
@@ -13,7 +14,7 @@ ghost use Rattle.felm_cli.specs.Words.{OrderValue, Sync, Graph, order_of, file_o
 ghost use Rattle.felm_cli.specs.Faults.{IsSyntaxFault, IsTypingFault};
 ghost use Rattle.felm_cli.specs.Plans.{AreFaulty};
 ghost use Rattle.felm_cli.specs.Ends.{LeavesText};
-ghost use Rattle.felm_cli.specs.Outcomes.{OfOrder, OfShort, IsTooLong, HavePrefix, CountsStay, OnLoaded, OnErrLoaded, OnPut, OnQuiet, OnUnfailed, LoadedOrFault, NoEnd, PutOutcome, OrderOutcome, WordsOutcome, HaveText};
+ghost use Rattle.felm_cli.specs.Outcomes.{OfOrder, OfShort, IsTooLong, HasLongProgram, IsOfLoad, HavePrefix, CountsStay, OnLoaded, OnErrLoaded, OnPut, OnQuiet, OnUnfailed, LoadedOrFault, NoEnd, PutOutcome, OrderOutcome, WordsOutcome, HaveText};
 ghost use Rattle.felm_cli.specs.Promises.{HaveResult, HaveStop, HaveFull, AreTexts, ComeTo, Answers, LackDefault, CanBeDone};
 ghost use Rattle.felm_cli.specs.Names.{file_named, limits_named};
 ghost use Rattle.felm_cli.specs.Views.{order_value};
@@ -40,7 +41,7 @@ pub fn felm_once<F: Files, S: Sink, E: Sink>(
     out: &mut S,
     err: &mut E,
 ) -> Status
-    // All that a status says, by cases. The clauses below tell it status by status.
+    // How the call ends, by cases on the status. The clauses below tell it status by status.
     ensures outcome { WordsOutcome (F.bytes files.old) (F.faults files.old) (F.faults files.new) (order_of (map string_bytes words.now))
         (S.bytes out.old) (S.bytes out.new) (S.faults out.old) (S.faults out.new) (S.short out.old) (S.short out.new) result }
 
@@ -65,6 +66,9 @@ pub fn felm_once<F: Files, S: Sink, E: Sink>(
     // A text that is too long is named, the program before the script.
     ensures too_long { (which : Which) → result ≡ Status.TooLong which → OfOrder (order_of (map string_bytes words.now))
         (λ order. IsTooLong (F.bytes files.old) order which) }
+    // A program that is too long is told before anything of the script, which isn't loaded then.
+    ensures long_program { (order : OrderValue) → order_of (map string_bytes words.now) ≡ Some order
+        → HasLongProgram (F.bytes files.old) order → IsOfLoad result }
     // What is wrong with the texts is told by its cause and place, line or limit.
     ensures syntax { (cause : SyntaxCause) (at : ℕ) → result ≡ Status.Syntax cause at → OfOrder (order_of (map string_bytes words.now))
         (λ order. OfShort (F.bytes files.old) order (λ program script. IsSyntaxFault program cause at)) }
@@ -75,7 +79,8 @@ pub fn felm_once<F: Files, S: Sink, E: Sink>(
     ensures stage { (cause : StageCause) → result ≡ Status.Stage cause → OfOrder (order_of (map string_bytes words.now))
         (λ order. OfShort (F.bytes files.old) order (λ program script. AreFaulty order program script (Status.Stage cause))) }
 
-    // Each of these comes wherever the texts come to it, and so does success, unless a load or a put failed or there was no memory.
+    // Each of these comes wherever the texts come to it, and so does success, unless a load or a put failed or there was no memory;
+    // but of a text that is no program the cause and the place may differ.
     ensures exact { (order : OrderValue) (program script : List ℕ) (expected : Status) → order_of (map string_bytes words.now) ≡ Some order
         → AreTexts (F.bytes files.old) order program script → ComeTo order program script expected → Answers expected result }
     // A default over budget stops the run before its first event, at the least node without one.
@@ -95,7 +100,7 @@ pub fn felm_once<F: Files, S: Sink, E: Sink>(
     // Want of memory leaves nothing, or a prefix of a text that the order may leave.
     ensures memory { result ≡ Status.Memory → OfOrder (order_of (map string_bytes words.now))
         (λ order. Keeps (S.bytes out.old) (S.bytes out.new) ⊎ OfShort (F.bytes files.old) order (HavePrefix order (S.bytes out.old) (S.bytes out.new))) }
-    // Any other status leaves `out` as it was.
+    // Any but success, a stop, a full journal, a refused put and want of memory leaves `out` as it was.
     ensures quiet { OnQuiet result (Keeps (S.bytes out.old) (S.bytes out.new)) }
 
     // The line of the status is put to `err`, whole, or a prefix of it where a put was refused in this call.
@@ -161,6 +166,7 @@ fn end_of_sync<F: Files>(
     ensures text { IfOk result (λ ended. HaveText (F.bytes files.old) (Sync program.now script.now limits.now) ended.status ended.text.items) }
     ensures leaves { IfOk result (λ ended. LeavesText ended.status) }
     ensures fault { IfErr result (NoEnd (F.bytes files.old) (F.faults files.old) (F.faults files.new) (Sync program.now script.now limits.now)) }
+    ensures long { HasLongProgram (F.bytes files.old) (Sync program.now script.now limits.now) → IsErrAnd result IsOfLoad }
     ensures loaded { (name : List ℕ) → OnErrLoaded result (F.faults files.new name ≡ F.faults files.old name) }
     ensures files { (name : List ℕ) → F.bytes files.new name ≡ F.bytes files.old name }
     ensures counts { (name : List ℕ) → F.faults files.old name ≤ F.faults files.new name }
@@ -183,6 +189,7 @@ fn end_of_graph<F: Files>(
     ensures text { IfOk result (λ ended. HaveText (F.bytes files.old) (Graph program.now limits.now) ended.status ended.text.items) }
     ensures leaves { IfOk result (λ ended. LeavesText ended.status) }
     ensures fault { IfErr result (NoEnd (F.bytes files.old) (F.faults files.old) (F.faults files.new) (Graph program.now limits.now)) }
+    ensures long { HasLongProgram (F.bytes files.old) (Graph program.now limits.now) → IsErrAnd result IsOfLoad }
     ensures loaded { (name : List ℕ) → OnErrLoaded result (F.faults files.new name ≡ F.faults files.old name) }
     ensures files { (name : List ℕ) → F.bytes files.new name ≡ F.bytes files.old name }
     ensures counts { (name : List ℕ) → F.faults files.old name ≤ F.faults files.new name }
@@ -198,6 +205,7 @@ fn end_of<F: Files>(alloc: Global, order: &Order<'_>, files: &mut F) -> Result<E
     ensures text { IfOk result (λ ended. HaveText (F.bytes files.old) (order_value order.now) ended.status ended.text.items) }
     ensures leaves { IfOk result (λ ended. LeavesText ended.status) }
     ensures fault { IfErr result (NoEnd (F.bytes files.old) (F.faults files.old) (F.faults files.new) (order_value order.now)) }
+    ensures long { HasLongProgram (F.bytes files.old) (order_value order.now) → IsErrAnd result IsOfLoad }
     ensures loaded { (name : List ℕ) → OnErrLoaded result (F.faults files.new name ≡ F.faults files.old name) }
     ensures files { (name : List ℕ) → F.bytes files.new name ≡ F.bytes files.old name }
     ensures counts { (name : List ℕ) → F.faults files.old name ≤ F.faults files.new name }
@@ -221,6 +229,7 @@ fn do_order<F: Files, S: Sink>(
 ) -> Status
     ensures outcome { OrderOutcome (F.bytes files.old) (F.faults files.old) (F.faults files.new) (order_value order.now)
         (S.bytes out.old) (S.bytes out.new) (S.faults out.old) (S.faults out.new) (S.short out.old) (S.short out.new) result }
+    ensures long { HasLongProgram (F.bytes files.old) (order_value order.now) → IsOfLoad result }
     ensures loaded { (name : List ℕ) → OnLoaded result (F.faults files.new name ≡ F.faults files.old name) }
     ensures files { (name : List ℕ) → F.bytes files.new name ≡ F.bytes files.old name }
     ensures counts { (name : List ℕ) → F.faults files.old name ≤ F.faults files.new name }

@@ -54,7 +54,7 @@ abbrev pub turn_line : ℕ → ℕ → ℕ → List ℕ
 turn_line node steps position =
     codes "felm: node " ++ decimal node ++ codes " takes more than " ++ decimal steps ++ codes " steps at event " ++ decimal position ++ codes "\n"
 
--- the line of a status about a file, under these limits; none for success
+-- the line of a status, with this file name and under these limits; none for success
 abbrev pub fault_text : Status → List ℕ → Limits → List ℕ
 fault_text Success file limits = []
 fault_text Usage file limits = codes "felm: the words name no command of this program\n"

@@ -46,7 +46,7 @@ abbrev pub event_line : ℕ → List ℕ → Event → Message → List ℕ
 event_line position source event message =
     decimal position ++ codes " " ++ source ++ codes " " ++ value_text event.value ++ codes " " ++ message_text message ++ codes "\n"
 
--- the lines of the events from a position on, each with its message
+-- the lines of the events from a position on, each with its message, as far as there are messages
 abbrev pub event_lines : GraphValue → ℕ → List Event → List Message → List ℕ
 event_lines g position [] messages = []
 event_lines g position (event ∷ events) [] = []
@@ -62,7 +62,7 @@ closing_text Full = codes "full "
 abbrev pub closing_line : Closing → ℕ → List ℕ
 closing_line closing count = closing_text closing ++ decimal count ++ codes "\n"
 
--- a default, a line for each event of a journal, and the last line
+-- a default, a line for each event of a journal that has a message, and the last line, which counts all events
 abbrev pub history_text : GraphValue → Option Value → List Event → List Message → Closing → List ℕ
 history_text g default journal outputs closing =
     codes "felm-result 1\n0 default " ++ option_map_or value_text default [] ++ codes "\n"

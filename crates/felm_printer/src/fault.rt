@@ -129,7 +129,7 @@ fn put_stage<S: Sink>(sink: &mut S, cause: &StageCause, limits: &Limits) -> Resu
     }
 }
 
-/// Puts the line of a status about a file, under these limits, and nothing for success.
+/// Puts the line of a status, with this file name and under these limits, and nothing for success.
 ///
 /// Only a refused put refuses it. It takes no memory of its own.
 pub fn put_fault<E: Sink>(
@@ -163,7 +163,8 @@ pub fn put_fault<E: Sink>(
     }
 }
 
-/// Puts the line of a status as `put_fault` does. A refused put changes nothing but what is put.
+/// Puts the line of a status as `put_fault` does. A refused put is passed over: a prefix of the line
+/// stands there then.
 pub fn tell<E: Sink>(status: &Status, file: &str, limits: &Limits, err: &mut E)
     ensures { FaultPut (fault_text status.now file.now limits.now) (E.bytes err.old) (E.bytes err.new)
         (E.faults err.old) (E.faults err.new) (E.short err.old) (E.short err.new) }

@@ -11,7 +11,8 @@ use std::alloc::Global;
 use std::fmt;
 use std::fmt::{Display, Formatter};
 
-/// The text of a graph, made whole in memory. It recurses over the functions in it alone.
+/// The text of a graph, made whole in memory. It recurses over the functions,
+/// bases and types in it alone.
 pub fn graph_text(alloc: Global, graph: &Graph) -> Result<Vec<u8>, Memory>
     ensures { IfOk result (λ text. text.items ≡ graph_text graph.now) }
 {

@@ -5,7 +5,7 @@ ghost use Rattle.felm_printer.specs.Fault.{fault_of_syntax, fault_of_typing, fau
 
 use felm_term::Memory;
 
-/// One of the two texts of an order.
+/// A text of a command.
 #[derive(Clone, Copy, Debug, PartialEq, Eq)]
 pub enum Which {
     /// The text of the program.
@@ -45,7 +45,7 @@ pub enum TypingCause {
 /// What is wrong with a line of an event script.
 #[derive(Clone, Copy, Debug, PartialEq, Eq)]
 pub enum ScriptCause {
-    /// It holds a byte that a text may not, or more than a name and a value.
+    /// It holds a byte that a text may not, or isn't skipped and has more than a name and a value.
     Line,
     /// No input has its name.
     Name,
@@ -75,7 +75,8 @@ pub enum Status {
     TooLong { which: Which },
     /// The text of the program is no program; `at` counts its bytes from 0.
     Syntax { cause: SyntaxCause, at: usize },
-    /// The program has no type; `at` counts the bytes of its text from 0.
+    /// `main` is no signal of a simple type by the typing rules; `at` counts the bytes of the
+    /// program's text from 0.
     Typing { cause: TypingCause, at: usize },
     /// A line of the event script is no event; lines count from 1.
     Script { cause: ScriptCause, line: u64 },
@@ -86,7 +87,7 @@ pub enum Status {
     Turn { node: u32, position: u64 },
     /// The journal is full, and an event was still to enter.
     Journal,
-    /// A put of the result failed.
+    /// A put of the text that the command leaves failed.
     Write,
     /// There was no memory.
     Memory,

@@ -122,7 +122,7 @@ LinesHaveWrongValues =
 
 -- ---- scripts
 
--- where each line says an event or nothing, the script is those events in order, and nothing else is one
+-- where each line says an event or nothing, the script is those events in order; a script that is accepted has no others
 abbrev pub ScriptsAreTheirLines : Type 0
 ScriptsAreTheirLines =
     (inputs : List InputDecl) (text : List ℕ) (events : List Event)

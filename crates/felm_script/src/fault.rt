@@ -8,7 +8,7 @@ use thiserror::Error;
 /// Why a script is refused: the first of its lines that is, counted from 1.
 #[derive(Clone, Copy, Debug, PartialEq, Eq, Error)]
 pub enum ScriptFault {
-    /// The line holds a byte that no text may hold, or has more fields than an event.
+    /// The line holds a byte that no text may hold, or isn't skipped and has more fields than an event.
     #[error("line {line} is no event")]
     Line { line: u64 },
     /// The first field of the line is no declared input.
@@ -36,7 +36,7 @@ impl From<Memory> for ScriptFault {
 /// Why a line is refused.
 #[derive(Clone, Copy, Debug, PartialEq, Eq)]
 pub enum Cause {
-    /// It holds a byte that no text may hold, or too many fields.
+    /// It holds a byte that no text may hold, or isn't skipped and has too many fields.
     Line,
     /// Its first field is no declared input.
     Name,

@@ -81,6 +81,39 @@ fn a_load_that_fails_is_named(rt: HostRuntime) -> Result<(), Fail> {
 }
 
 #[test]
+fn a_script_that_is_not_there_comes_after_the_length(rt: HostRuntime) -> Result<(), Fail> {
+    let alloc = rt.alloc();
+    let mut long = Vec::new(alloc);
+    long.resize(16_777_217, b' ')?;
+    let (program, script) = (Which::Program, Which::Script);
+    let cases: [(&[u8], Status, &[u8]); 2] = [
+        (
+            long.as_slice(),
+            Status::TooLong { which: program },
+            b"felm: p is too long\n",
+        ),
+        // But before anything that is wrong with the text of the program.
+        (
+            b"main =",
+            Status::Read { which: script },
+            b"felm: cannot read s\n",
+        ),
+    ];
+    let words = words(alloc, &["sync", "p", "s"])?;
+    for (text, status, line) in cases {
+        let mut files = MemoryFiles::make(alloc);
+        files.add("p", text).map_err(|_| AllocError)?;
+        let mut out = SureSink::make(alloc);
+        let mut err = SureSink::make(alloc);
+        let left = felm_once(alloc, words.as_slice(), &mut files, &mut out, &mut err);
+        assert_eq!(rt; left, status);
+        assert_eq!(rt; out.bytes(), b"".as_slice());
+        assert_eq!(rt; err.bytes(), line);
+    }
+    Ok(())
+}
+
+#[test]
 fn a_put_that_fails_leaves_a_prefix(rt: HostRuntime) -> Result<(), Fail> {
     let alloc = rt.alloc();
     let words = words(alloc, &["sync", "p", "s"])?;
