@@ -1,10 +1,8 @@
 -- What the outcome of words says, status by status.
-use Rattle.std.proofs.Common.{◌≡◌, ℕ, true, false, List, [], Option, Some, None, IfSome, refl, sym, ap, ◌∙◌, subst, ◌⊎◌, inl, inr}
-use Rattle.std.specs.Prelude.{IsSomeAnd, ◌↔◌}
-use Rattle.std.specs.Io.KnownBytes.{Appends, Keeps}
-use Rattle.felm_term.specs.declared.limits.Limits.{Limits}
-use Rattle.felm_io.specs.Causes.{Rose, AppendsPrefix}
-use Rattle.felm_graph.specs.GraphValue.{GraphValue}
+use Rattle.std.proofs.Common.{◌≡◌, ℕ, true, false, List, [], Option, Some, None, IfSome, refl, sym, ◌∙◌, subst, ◌⊎◌, inl, inr}
+use Rattle.std.specs.Prelude.{IsSomeAnd}
+use Rattle.std.specs.Io.KnownBytes.{Appends}
+use Rattle.felm_io.specs.Causes.{Rose}
 use Rattle.felm_meaning.specs.declared.history.RunEnd.{RunEnd}
 use Rattle.felm_meaning.specs.declared.history.RunEnd.TheVariants.{Complete, Stopped, Full}
 use Rattle.felm_printer.specs.declared.status.Status.{Status}
@@ -14,8 +12,8 @@ use Rattle.felm_printer.specs.declared.status.Which.TheVariants as which
 use Rattle.felm_cli.specs.Words.{OrderValue, Sync, Graph, file_of}
 use Rattle.felm_cli.specs.Plans.{is_short, AreFaulty}
 use Rattle.felm_cli.specs.Ends.{EndsWith, IsTextOfEnd, LeavesText}
-use Rattle.felm_cli.specs.Outcomes.{OfOrder, OfTexts, OfShort, IsTooLong, HaveEnd, HavePrefix, CountsStay, OnPut, OnLoaded, OnUnfailed, OnQuiet, NoEnd, OrderOutcome, WordsOutcome}
-use Rattle.felm_cli.specs.Promises.{HaveResult, HaveStop, HaveFull, AreTexts, CanEnd, ComeTo, IsOneWith, Answers, AllWithinBudget, JournalSuffices, LackDefault, CanBeDone}
+use Rattle.felm_cli.specs.Outcomes.{OfOrder, OfShort, IsTooLong, HaveEnd, HavePrefix, OrderOutcome, WordsOutcome}
+use Rattle.felm_cli.specs.Promises.{HaveResult, HaveStop, HaveFull, AreTexts, ComeTo, IsOneWith, Answers, LackDefault, CanBeDone}
 use Rattle.felm_cli.proofs.Graphs.{plan_keeps}
 use Rattle.felm_cli.proofs.RunEnds.{complete_run, stopped_run, full_run, default_stops, run_completes}
 use Rattle.felm_cli.proofs.Outcomes.{further}

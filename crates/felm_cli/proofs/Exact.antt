@@ -1,16 +1,9 @@
 -- The texts of an order come to at most one status.
-use Rattle.std.proofs.Common.{◌≡◌, ℕ, true, false, List, Some, refl, sym, ap, ◌∙◌, subst}
+use Rattle.std.proofs.Common.{◌≡◌, ℕ, true, List, Some, refl, sym, ap, ◌∙◌, subst}
 use Rattle.std.specs.Prelude.{Ok, Err}
-use Rattle.felm_term.specs.declared.event.Event.{Event}
-use Rattle.felm_term.specs.declared.limits.Limits.{Limits}
-use Rattle.felm_syntax.specs.ProgramText.{IsProgramText}
 use Rattle.felm_syntax.specs.declared.program.Program.{Program}
-use Rattle.felm_types.specs.Typed.{IsTyped}
 use Rattle.felm_types.specs.FirstFault.{program_fault}
-use Rattle.felm_types.specs.declared.fault.TypeFault.{TypeFault}
 use Rattle.felm_script.specs.Script.{script_of}
-use Rattle.felm_script.specs.declared.fault.ScriptFault.{ScriptFault}
-use Rattle.felm_graph.specs.GraphValue.{GraphValue}
 use Rattle.felm_printer.specs.declared.status.Status.{Status}
 use Rattle.felm_printer.specs.declared.status.Status.TheVariants.{Success, Usage, Read, TooLong, Syntax, Typing, Script, Stage, Turn, Journal, Write, Memory}
 use Rattle.felm_printer.specs.declared.status.Which.{Which}
@@ -22,9 +15,9 @@ use Rattle.felm_printer.specs.declared.status.ScriptCause.TheVariants.{Line, Nam
 use Rattle.felm_printer.specs.declared.status.StageCause.{StageCause}
 use Rattle.felm_cli.specs.Words.{OrderValue, Sync, Graph}
 use Rattle.felm_cli.specs.Faults.{IsSyntaxFault, IsTypingFault, type_fault, script_fault}
-use Rattle.felm_cli.specs.Plans.{Planned, is_short, IsTypedText, HavePlan, HasGraph, IsScriptFault, AreUnplanned, IsUngraphed, IsUnstaged, AreFaulty, IsPlanFault, IsGraphFault}
-use Rattle.felm_cli.specs.Ends.{EndsWith, RunEnds, IsTextOfEnd}
-use Rattle.felm_cli.specs.Promises.{CanEnd, ComeTo, IsOneWith, IsSyntax}
+use Rattle.felm_cli.specs.Plans.{Planned, is_short, IsTypedText, IsUnstaged, AreFaulty}
+use Rattle.felm_cli.specs.Ends.{EndsWith, RunEnds}
+use Rattle.felm_cli.specs.Promises.{CanEnd, ComeTo, IsSyntax}
 use Rattle.felm_cli.specs.Laws.{TextsComeToOneEnd}
 use Rattle.felm_cli.proofs.Refusals.{one_text, faulty_texts, faulty_programs}
 use Rattle.felm_cli.proofs.Graphs.{one_plan, one_stage_fault, staged_or_not}

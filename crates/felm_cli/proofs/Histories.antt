@@ -1,8 +1,6 @@
 -- The history of a run: that its text can be made, and which one it is.
-use Rattle.std.proofs.Common.{◌≡◌, ℕ, suc, ◌+◌, ◌<◌, ◌≤◌, List, Some, length, refl, sym, ap, ◌∙◌, subst, arith}
+use Rattle.std.proofs.Common.{◌≡◌, ℕ, suc, ◌≤◌, List, Some, length, sym, ap, ◌∙◌, subst, arith}
 use Rattle.felm_term.specs.declared.event.Event.{Event}
-use Rattle.felm_term.specs.declared.message.Message.{Message}
-use Rattle.felm_term.specs.declared.value.Value.{Value}
 use Rattle.felm_graph.specs.GraphValue.{GraphValue}
 use Rattle.felm_graph.specs.Graphs.{IsGraph}
 use Rattle.felm_meaning.specs.declared.history.History.{History}

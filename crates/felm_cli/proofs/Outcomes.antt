@@ -1,12 +1,12 @@
 -- How an order ends, by how its parts do.
 use Rattle.std.proofs.Common.{◌≡◌, ℕ, ◌+◌, ◌<◌, ◌≤◌, true, false, List, [], length, take, Option, Some, None, IfSome, refl, sym, ap, ◌∙◌, subst, arith, inl, inr}
-use Rattle.std.specs.Prelude.{Err, Result, nat_le}
-use Rattle.std.specs.Io.KnownBytes.{Appends, Keeps}
+use Rattle.std.specs.Prelude.{Err, nat_le}
+use Rattle.std.specs.Io.KnownBytes.{Appends}
 use Rattle.std.proofs.KnownBytes.{Keeps-refl}
 use Rattle.std.proofs.lemmas.List.{take_all, length-take-le}
 use Rattle.std.proofs.lemmas.Bool.Decides.{leb_tells}
 use Rattle.felm_term.specs.declared.limits.Limits.{Limits}
-use Rattle.felm_io.specs.Causes.{Rose, AppendsPrefix}
+use Rattle.felm_io.specs.Causes.{AppendsPrefix}
 use Rattle.felm_graph.specs.GraphValue.{GraphValue}
 use Rattle.felm_printer.specs.declared.status.Status.{Status}
 use Rattle.felm_printer.specs.declared.status.Status.TheVariants.{Success, Usage, Read, TooLong, Syntax, Typing, Script, Stage, Turn, Journal, Write, Memory}
@@ -15,7 +15,7 @@ use Rattle.felm_printer.specs.Graphs.{graph_text}
 use Rattle.felm_cli.specs.Words.{OrderValue, Sync, Graph}
 use Rattle.felm_cli.specs.Plans.{Planned, is_short, HavePlan, HasGraph, IsPlanFault, IsGraphFault, AreFaulty, OrMemory}
 use Rattle.felm_cli.specs.Ends.{RunEnds, EndsWith, LeavesText}
-use Rattle.felm_cli.specs.Outcomes.{OfTexts, OfShort, HaveEnd, HavePrefix, HaveText, CountsStay, NoEnd, LoadedOrFault, PutOutcome, OrderOutcome}
+use Rattle.felm_cli.specs.Outcomes.{OfShort, HaveEnd, HavePrefix, HaveText, CountsStay, NoEnd, LoadedOrFault, PutOutcome, OrderOutcome}
 
 -- ---- a text that is loaded
 

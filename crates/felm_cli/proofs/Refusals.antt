@@ -1,6 +1,6 @@
 -- What the texts of an order are read as, and why they are refused.
 use Rattle.std.proofs.Common.{◌≡◌, ℕ, List, [], Some, refl, sym, ap, ◌∙◌, subst, arith}
-use Rattle.std.specs.Prelude.{Err, IfSome}
+use Rattle.std.specs.Prelude.{IfSome}
 use Rattle.felm_lexer.specs.declared.token.Token.{Token}
 use Rattle.felm_lexer.specs.declared.fault.LexFault.{LexFault}
 use Rattle.felm_lexer.specs.declared.fault.LexFault.TheVariants as lexing

@@ -1,5 +1,5 @@
 -- The run of a plan: that it ends in one way alone, and what its end says of its journal.
-use Rattle.std.proofs.Common.{◌≡◌, ℕ, suc, ◌+◌, ◌<◌, ◌≤◌, List, [], ◌∷◌, ◌++◌, Option, Some, None, length, refl, sym, ap, ◌∙◌, subst, arith}
+use Rattle.std.proofs.Common.{◌≡◌, ℕ, ◌≤◌, List, [], ◌∷◌, ◌++◌, Option, Some, None, length, refl, sym, ap, ◌∙◌, subst, arith}
 use Rattle.std.proofs.lemmas.List.{length-append}
 use Rattle.felm_term.specs.Spared.{Spared}
 use Rattle.felm_term.specs.Values.{value_of}
@@ -12,7 +12,7 @@ use Rattle.felm_meaning.specs.declared.history.History.{History}
 use Rattle.felm_meaning.specs.declared.history.RunEnd.{RunEnd}
 use Rattle.felm_meaning.specs.declared.history.RunEnd.TheVariants.{Complete, Stopped, Full}
 use Rattle.felm_meaning.specs.Meaning.{row, at, msg, val, value_at, sends, IsThere}
-use Rattle.felm_meaning.specs.Journals.{NamesInputs, IsLegal, IsComplete, AllThere, IsLeastNone, next, plain_journal}
+use Rattle.felm_meaning.specs.Journals.{NamesInputs, IsComplete, AllThere, IsLeastNone, next, plain_journal}
 use Rattle.felm_meaning.specs.Ends.{IsStopped, IsOverDefault, IsFull}
 use Rattle.felm_meaning.proofs.Plain.{plain-is, plain-only, plain-legal}
 use Rattle.felm_meaning.proofs.Legal.{legal-next}

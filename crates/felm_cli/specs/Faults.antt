@@ -1,5 +1,5 @@
 -- What is wrong with a text, by the cause and the place that a status tells.
-use Rattle.std.specs.Prelude.{◌≡◌, ℕ, List, Some, None, Err}
+use Rattle.std.specs.Prelude.{◌≡◌, ℕ, List, Some, None}
 use Rattle.felm_term.specs.CoreTerm.{CoreTerm}
 use Rattle.felm_term.specs.declared.input.InputDecl.{InputDecl}
 use Rattle.felm_lexer.specs.declared.token.Token.{Token}

@@ -1,5 +1,5 @@
 -- The plan of an order's texts, or why they have none: the first case of the order of work that applies.
-use Rattle.std.specs.Prelude.{◌≡◌, ℕ, ⊤, Bool, List, length, nat_le, Option, Some, Ok, Err}
+use Rattle.std.specs.Prelude.{◌≡◌, ℕ, ⊤, Bool, List, length, nat_le, Some, Ok, Err}
 use Rattle.felm_term.specs.CoreTerm.{CoreTerm}
 use Rattle.felm_term.specs.declared.event.Event.{Event}
 use Rattle.felm_term.specs.declared.input.InputDecl.{InputDecl}

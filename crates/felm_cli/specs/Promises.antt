@@ -1,5 +1,5 @@
 -- What the statuses of the top call promise, each in the words of its cause.
-use Rattle.std.specs.Prelude.{◌≡◌, ◌⊎◌, ℕ, ⊤, ◌<◌, ◌≤◌, true, false, List, [], Option, Some, None, length}
+use Rattle.std.specs.Prelude.{◌≡◌, ℕ, ⊤, ◌<◌, ◌≤◌, true, false, List, [], Option, Some, length}
 use Rattle.std.specs.Io.KnownBytes.{Appends}
 use Rattle.felm_term.specs.declared.event.Event.{Event}
 use Rattle.felm_term.specs.declared.limits.Limits.{Limits}
