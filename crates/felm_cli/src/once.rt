@@ -66,7 +66,7 @@ pub fn felm_once<F: Files, S: Sink, E: Sink>(
     // A text that is too long is named, the program before the script.
     ensures too_long { (which : Which) → result ≡ Status.TooLong which → OfOrder (order_of (map string_bytes words.now))
         (λ order. IsTooLong (F.bytes files.old) order which) }
-    // A program that is too long is told before anything of the script, which isn't loaded then.
+    // A program that is too long is told before anything of the script, whether or not that can be loaded.
     ensures long_program { (order : OrderValue) → order_of (map string_bytes words.now) ≡ Some order
         → HasLongProgram (F.bytes files.old) order → IsOfLoad result }
     // What is wrong with the texts is told by its cause and place, line or limit.
