@@ -7,13 +7,15 @@ use Rattle.felm_meaning.specs.declared.history.RunEnd.{RunEnd}
 use Rattle.felm_meaning.specs.declared.history.RunEnd.TheVariants.{Complete, Stopped, Full}
 use Rattle.felm_printer.specs.declared.status.Status.{Status}
 use Rattle.felm_printer.specs.declared.status.Status.TheVariants.{Success, Usage, Read, TooLong, Syntax, Typing, Script, Stage, Turn, Journal, Write, Memory}
+use Rattle.felm_printer.specs.declared.status.SyntaxCause.{SyntaxCause}
+use Rattle.felm_printer.specs.declared.status.SyntaxCause.TheVariants.{NoToken, Wide, Grammar, Depth, Twice}
 use Rattle.felm_printer.specs.declared.status.Which.{Which}
 use Rattle.felm_printer.specs.declared.status.Which.TheVariants as which
 use Rattle.felm_cli.specs.Words.{OrderValue, Sync, Graph, file_of}
 use Rattle.felm_cli.specs.Plans.{is_short, AreFaulty}
 use Rattle.felm_cli.specs.Ends.{EndsWith, IsTextOfEnd, LeavesText}
 use Rattle.felm_cli.specs.Outcomes.{OfOrder, OfShort, IsTooLong, HaveEnd, HavePrefix, OrderOutcome, WordsOutcome}
-use Rattle.felm_cli.specs.Promises.{HaveResult, HaveStop, HaveFull, AreTexts, ComeTo, IsOneWith, Answers, LackDefault, CanBeDone}
+use Rattle.felm_cli.specs.Promises.{HaveResult, HaveStop, HaveFull, AreTexts, ComeTo, IsOfTokens, IsOneFault, IsOneWith, Answers, LackDefault, CanBeDone}
 use Rattle.felm_cli.proofs.Graphs.{plan_keeps}
 use Rattle.felm_cli.proofs.RunEnds.{complete_run, stopped_run, full_run, default_stops, run_completes}
 use Rattle.felm_cli.proofs.Outcomes.{further}
@@ -37,7 +39,7 @@ stop_of (Sync p s limits) node position out out' program script h =
     let plan = h.1.0 in
     let kept = plan_keeps program script limits.stage_steps plan h.1.1 in
     let run = stopped_run limits plan kept.0 kept.1 node position h.0 h.1.2 in
-    (plan, h.1.1, run.0, run.1, subst (Appends out out') run.2 h.2)
+    (plan, h.1.1, run.0, run.1, run.2, subst (Appends out out') run.3 h.2)
 stop_of (Graph p limits) node position out out' program script h = let e : Turn node position ≡ Success = h.1.2 in cc
 
 -- and one that fills up a full journal
@@ -109,6 +111,28 @@ end_comes order (Stage cause) text program script s h l = absurd l
 end_comes order Write text program script s h l = absurd l
 end_comes order Memory text program script s h l = absurd l
 
+-- a fault of the program's text leaves none
+of_tokens : (end : Status) → IsOfTokens end → ¬ LeavesText end
+of_tokens Success o l = o
+of_tokens (Turn node position) o l = o
+of_tokens Journal o l = o
+of_tokens Usage o l = l
+of_tokens (Read w) o l = l
+of_tokens (TooLong w) o l = l
+of_tokens (Syntax cause at) o l = l
+of_tokens (Typing cause at) o l = l
+of_tokens (Script cause line) o l = l
+of_tokens (Stage cause) o l = l
+of_tokens Write o l = l
+of_tokens Memory o l = l
+
+no_text : (cause : SyntaxCause) (at : ℕ) (end : Status) → IsOneFault cause at end → ¬ LeavesText end
+no_text NoToken at end o l = subst LeavesText o l
+no_text Wide at end o l = subst LeavesText o l
+no_text Grammar at end o l = of_tokens end o l
+no_text Depth at end o l = of_tokens end o l
+no_text Twice at end o l = of_tokens end o l
+
 -- where the one leaves a text, so does one that is the same
 leaves_too : (expected end : Status) → IsOneWith expected end → LeavesText end → LeavesText expected
 leaves_too Success end o l = tt
@@ -122,18 +146,7 @@ leaves_too (Script cause line) end o l = subst LeavesText o l
 leaves_too (Stage cause) end o l = subst LeavesText o l
 leaves_too Write end o l = subst LeavesText o l
 leaves_too Memory end o l = subst LeavesText o l
-leaves_too (Syntax cause at) Success o l = absurd o
-leaves_too (Syntax cause at) (Turn node position) o l = absurd o
-leaves_too (Syntax cause at) Journal o l = absurd o
-leaves_too (Syntax cause at) Usage o l = absurd l
-leaves_too (Syntax cause at) (Read w) o l = absurd l
-leaves_too (Syntax cause at) (TooLong w) o l = absurd l
-leaves_too (Syntax cause at) (Syntax c m) o l = absurd l
-leaves_too (Syntax cause at) (Typing c m) o l = absurd l
-leaves_too (Syntax cause at) (Script c m) o l = absurd l
-leaves_too (Syntax cause at) (Stage c) o l = absurd l
-leaves_too (Syntax cause at) Write o l = absurd l
-leaves_too (Syntax cause at) Memory o l = absurd l
+leaves_too (Syntax cause at) end o l = absurd (no_text cause at end o l)
 
 module _ (bytes : List ℕ → Option (List ℕ)) (counts counts' : List ℕ → ℕ) (out out' : Option (List ℕ)) (faults faults' short short' : ℕ) where
   -- ---- exactness
@@ -191,7 +204,7 @@ module _ (bytes : List ℕ → Option (List ℕ)) (counts counts' : List ℕ →
     completes Success c h n m = inl refl
     completes Memory c h n m = inr refl
     completes (Read w) c h n m = absurd (n w h.0)
-    completes Write c h n m = absurd (m h.1)
+    completes Write c h n m = absurd (m h.2)
     completes Usage c h n m = absurd h.0
     completes (TooLong w) c h n m = let e = answers Success (TooLong w) (done_comes c) h in cc
     completes (Syntax cause at) c h n m = let e = answers Success (Syntax cause at) (done_comes c) h in cc

@@ -8,6 +8,7 @@ use Rattle.felm_printer.specs.declared.status.Status.{Status}
 use Rattle.felm_printer.specs.declared.status.Status.TheVariants.{Success, Usage, Read, TooLong, Syntax, Typing, Script, Stage, Turn, Journal, Write, Memory}
 use Rattle.felm_printer.specs.declared.status.Which.{Which}
 use Rattle.felm_printer.specs.declared.status.Which.TheVariants as which
+use Rattle.felm_printer.specs.declared.status.SyntaxCause.{SyntaxCause}
 use Rattle.felm_printer.specs.declared.status.TypingCause.{TypingCause}
 use Rattle.felm_printer.specs.declared.status.TypingCause.TheVariants.{Untyped, Unknown, IllFormed, MainType}
 use Rattle.felm_printer.specs.declared.status.ScriptCause.{ScriptCause}
@@ -17,9 +18,9 @@ use Rattle.felm_cli.specs.Words.{OrderValue, Sync, Graph}
 use Rattle.felm_cli.specs.Faults.{IsSyntaxFault, IsTypingFault, type_fault, script_fault}
 use Rattle.felm_cli.specs.Plans.{Planned, is_short, IsTypedText, IsUnstaged, AreFaulty}
 use Rattle.felm_cli.specs.Ends.{EndsWith, RunEnds}
-use Rattle.felm_cli.specs.Promises.{CanEnd, ComeTo, IsSyntax}
+use Rattle.felm_cli.specs.Promises.{CanEnd, ComeTo, IsOneFault}
 use Rattle.felm_cli.specs.Laws.{TextsComeToOneEnd}
-use Rattle.felm_cli.proofs.Refusals.{one_text, faulty_texts, faulty_programs}
+use Rattle.felm_cli.proofs.Refusals.{one_text, one_fault, faulty_texts, faulty_programs}
 use Rattle.felm_cli.proofs.Graphs.{one_plan, one_stage_fault, staged_or_not}
 use Rattle.felm_cli.proofs.RunEnds.{one_run_end}
 
@@ -315,19 +316,21 @@ module _ (order : OrderValue) (program script : List ℕ) where
   typing_alone cause at (Stage c) h k = absurd (sound_typing cause at (typed (Stage c) k tt) h)
 
   -- nor a fault of the program's text, but with another cause or place
-  syntax_alone : (cause : _) (at : ℕ) (status : Status) → ComeTo order program script (Syntax cause at) → ComeTo order program script status → IsSyntax status
-  syntax_alone cause at (Syntax c m) h k = tt
+  syntax_alone : (cause : SyntaxCause) (at : ℕ) (status : Status) → ComeTo order program script (Syntax cause at) → ComeTo order program script status
+      → IsOneFault cause at status
+  syntax_alone cause at (Syntax c m) h k =
+      one_fault program cause c at m (syntax_fault order program script cause at h.2) (syntax_fault order program script c m k.2)
   syntax_alone cause at (TooLong w) h k = let e = too_long w (Syntax cause at) k h in absurd (cc)
-  syntax_alone cause at (Typing c m) h k = one_or_the_other cause at c m h k
-  syntax_alone cause at Usage h k = unfaulty_usage order program script k.2
-  syntax_alone cause at (Read w) h k = unfaulty_read order program script w k.2
-  syntax_alone cause at Write h k = unfaulty_write order program script k.2
-  syntax_alone cause at Memory h k = unfaulty_memory order program script k.2
-  syntax_alone cause at Success h k = sound_syntax cause at (typed Success k tt) h
-  syntax_alone cause at (Turn node position) h k = sound_syntax cause at (typed (Turn node position) k tt) h
-  syntax_alone cause at Journal h k = sound_syntax cause at (typed Journal k tt) h
-  syntax_alone cause at (Script c m) h k = sound_syntax cause at (typed (Script c m) k tt) h
-  syntax_alone cause at (Stage c) h k = sound_syntax cause at (typed (Stage c) k tt) h
+  syntax_alone cause at (Typing c m) h k = absurd (one_or_the_other cause at c m h k)
+  syntax_alone cause at Usage h k = absurd (unfaulty_usage order program script k.2)
+  syntax_alone cause at (Read w) h k = absurd (unfaulty_read order program script w k.2)
+  syntax_alone cause at Write h k = absurd (unfaulty_write order program script k.2)
+  syntax_alone cause at Memory h k = absurd (unfaulty_memory order program script k.2)
+  syntax_alone cause at Success h k = absurd (sound_syntax cause at (typed Success k tt) h)
+  syntax_alone cause at (Turn node position) h k = absurd (sound_syntax cause at (typed (Turn node position) k tt) h)
+  syntax_alone cause at Journal h k = absurd (sound_syntax cause at (typed Journal k tt) h)
+  syntax_alone cause at (Script c m) h k = absurd (sound_syntax cause at (typed (Script c m) k tt) h)
+  syntax_alone cause at (Stage c) h k = absurd (sound_syntax cause at (typed (Stage c) k tt) h)
 
 pub one_end : TextsComeToOneEnd
 one_end order program script (Syntax cause at) other h k = syntax_alone order program script cause at other h k

@@ -233,8 +233,8 @@ module _ (bytes : List ℕ → Option (List ℕ)) (counts counts' : List ℕ →
     -- how a text is put is how its order ends
     pub put_ends : (end : Status) (text : List ℕ) (status : Status) → LeavesText end → HaveText bytes order end text
         → PutOutcome end text out out' faults faults' short short' status → OrderOutcome bytes counts counts' order out out' faults faults' short short' status
-    put_ends end text Write l h put = (prefix_of end text h put.0, put.1)
-    put_ends end text Memory l h put = (inr (prefix_of end text h put.0), put.1)
+    put_ends end text Write l h put = (prefix_of end text h put.0, put.1, put.2, put.3)
+    put_ends end text Memory l h put = (inr (prefix_of end text h put.0), put.1, put.2)
     put_ends end text Success l h put = put_as end text Success l h put
     put_ends end text Usage l h put = put_as end text Usage l h put
     put_ends end text (Read w) l h put = put_as end text (Read w) l h put
@@ -251,13 +251,13 @@ module _ (bytes : List ℕ → Option (List ℕ)) (counts counts' : List ℕ →
       → OrderOutcome bytes counts counts' order out out faults faults short short status
   none_ends Success out faults short h = absurd h
   none_ends Usage out faults short h = absurd h
-  none_ends (Read w) out faults short h = (h, Keeps-refl out, refl)
-  none_ends (TooLong w) out faults short h = (h, Keeps-refl out, refl)
-  none_ends (Syntax cause at) out faults short h = (h, Keeps-refl out, refl)
-  none_ends (Typing cause at) out faults short h = (h, Keeps-refl out, refl)
-  none_ends (Script cause line) out faults short h = (h, Keeps-refl out, refl)
-  none_ends (Stage cause) out faults short h = (h, Keeps-refl out, refl)
+  none_ends (Read w) out faults short h = (h, Keeps-refl out, (refl, refl))
+  none_ends (TooLong w) out faults short h = (h, Keeps-refl out, (refl, refl))
+  none_ends (Syntax cause at) out faults short h = (h, Keeps-refl out, (refl, refl))
+  none_ends (Typing cause at) out faults short h = (h, Keeps-refl out, (refl, refl))
+  none_ends (Script cause line) out faults short h = (h, Keeps-refl out, (refl, refl))
+  none_ends (Stage cause) out faults short h = (h, Keeps-refl out, (refl, refl))
   none_ends (Turn node position) out faults short h = absurd h
   none_ends Journal out faults short h = absurd h
   none_ends Write out faults short h = absurd h
-  none_ends Memory out faults short h = (inl (Keeps-refl out), refl)
+  none_ends Memory out faults short h = (inl (Keeps-refl out), refl, omega arith)

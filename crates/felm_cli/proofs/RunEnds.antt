@@ -114,17 +114,25 @@ module _ (limits : Limits) (plan : Planned) where
         go (Full h) p s = let e : Success ≡ Journal = s.0 in cc
 
     pub stopped_run : (node position : ℕ) (text : List ℕ) → RunEnds limits plan (Turn node position) text
-        → IsStopped plan.graph limits.turn_steps plan.script j node position × (position ≡ length j) × (text ≡ stopped_text plan.graph j node position)
+        → IsStopped plan.graph limits.turn_steps plan.script j node position
+        × IsLeastNone plan.graph (row plan.graph limits.turn_steps j position) node
+        × (position ≡ length j)
+        × (text ≡ stopped_text plan.graph j node position)
     stopped_run node position text h = go h.0 h.1 h.2
       where
         go : (e : RunEnd) → IsEndOf plan.graph limits.turn_steps plan.script limits.journal e → IsTextOfEnd limits plan e (Turn node position) text
-            → IsStopped plan.graph limits.turn_steps plan.script j node position × (position ≡ length j) × (text ≡ stopped_text plan.graph j node position)
+            → IsStopped plan.graph limits.turn_steps plan.script j node position
+            × IsLeastNone plan.graph (row plan.graph limits.turn_steps j position) node
+            × (position ≡ length j)
+            × (text ≡ stopped_text plan.graph j node position)
         go (Complete h) p s = let e : Turn node position ≡ Success = s.0 in cc
         go (Stopped i k q) p s =
             let n : k ≡ node = cc in
             let m : q ≡ position = cc in
             let stopped = stopped_journal plan.graph limits.turn_steps plan.script limits.journal i k q graph named p in (
               subst (λ x. IsStopped plan.graph limits.turn_steps plan.script j x position) n (subst (IsStopped plan.graph limits.turn_steps plan.script j k) m stopped),
+              subst (IsLeastNone plan.graph (row plan.graph limits.turn_steps j position)) n
+                  (subst (λ y. IsLeastNone plan.graph (row plan.graph limits.turn_steps j y) k) (sym p.1 ∙ m) p.2),
               sym m ∙ p.1,
               s.1 ∙ ap (λ x. stopped_text plan.graph j x q) n ∙ ap (stopped_text plan.graph j node) m,
             )

@@ -1,5 +1,5 @@
 -- What the laws of this crate say.
-use Rattle.std.specs.Prelude.{◌≡◌, ℕ, List}
+use Rattle.std.specs.Prelude.{◌≡◌, ◌⊎◌, ℕ, List}
 use Rattle.felm_syntax.specs.ProgramText.{IsProgramText}
 use Rattle.felm_syntax.specs.declared.program.Program.{Program}
 use Rattle.felm_types.specs.Typed.{IsTyped}
@@ -20,6 +20,14 @@ OnePlan = (program script : List ℕ) (budget : ℕ) (one other : Planned) → H
 abbrev pub OneGraph : Type 0
 OneGraph = (program : List ℕ) (budget : ℕ) (one other : GraphValue) → HasGraph program budget one → HasGraph program budget other → one ≡ other
 
+-- a text is a program, or it has a fault of its text
+abbrev pub IsProgramOrFaulty : List ℕ → Type 0
+IsProgramOrFaulty text = ((program : Program) × IsProgramText text program) ⊎ ((cause : SyntaxCause) × (at : ℕ) × IsSyntaxFault text cause at)
+
+-- each text is one or the other
+abbrev pub TextsAreProgramsOrFaulty : Type 0
+TextsAreProgramsOrFaulty = (text : List ℕ) → IsProgramOrFaulty text
+
 -- a text with a fault is no program
 abbrev pub FaultyTextsAreNoPrograms : Type 0
 FaultyTextsAreNoPrograms = (text : List ℕ) (cause : SyntaxCause) (at : ℕ) (program : Program) → IsSyntaxFault text cause at → IsProgramText text program → ⊥
@@ -29,7 +37,8 @@ abbrev pub FaultyProgramsAreUntyped : Type 0
 FaultyProgramsAreUntyped =
     (text : List ℕ) (cause : TypingCause) (at : ℕ) (program : Program) → IsTypingFault text cause at → IsProgramText text program → IsTyped program → ⊥
 
--- the texts of an order come to at most one status; where they are no program, its cause and place may differ
+-- the texts of an order come to at most one status; where the tokens of the program's text are no program, its cause and place may
+-- differ
 abbrev pub TextsComeToOneEnd : Type 0
 TextsComeToOneEnd =
     (order : OrderValue) (program script : List ℕ) (one other : Status) → ComeTo order program script one → ComeTo order program script other → IsOneWith one other

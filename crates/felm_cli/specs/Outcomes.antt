@@ -1,5 +1,5 @@
 -- How the top call ends, for each status.
-use Rattle.std.specs.Prelude.{◌≡◌, ℕ, ⊤, ◌⊎◌, true, false, List, [], Option, Some, None, Result, Ok, Err, IfSome, IsSomeAnd}
+use Rattle.std.specs.Prelude.{◌≡◌, ℕ, ◌≤◌, ⊤, ◌⊎◌, true, false, List, [], Option, Some, None, Result, Ok, Err, IfSome, IsSomeAnd}
 use Rattle.std.specs.Io.KnownBytes.{Appends, Keeps}
 use Rattle.felm_io.specs.Causes.{Rose, AppendsPrefix}
 use Rattle.felm_printer.specs.declared.status.Status.{Status}
@@ -97,8 +97,9 @@ OnUnfailed _ P = P
 
 -- how a text is put that a status is to leave
 abbrev pub PutOutcome : Status → List ℕ → Option (List ℕ) → Option (List ℕ) → ℕ → ℕ → ℕ → ℕ → Status → Type 0
-PutOutcome end text out out' faults faults' short short' Write = AppendsPrefix out out' text × Rose faults faults'
-PutOutcome end text out out' faults faults' short short' Memory = AppendsPrefix out out' text × (faults' ≡ faults)
+PutOutcome end text out out' faults faults' short short' Write =
+    AppendsPrefix out out' text × (faults ≤ faults') × Rose faults faults' × (short' ≡ short)
+PutOutcome end text out out' faults faults' short short' Memory = AppendsPrefix out out' text × (faults' ≡ faults) × (short ≤ short')
 PutOutcome end text out out' faults faults' short short' status = (status ≡ end) × Appends out out' text × CountsStay faults faults' short short'
 
 -- why an order has no text to put
@@ -130,15 +131,16 @@ OrderOutcome bytes counts counts' order out out' faults faults' short short' (Tu
 OrderOutcome bytes counts counts' order out out' faults faults' short short' Journal =
     OfShort bytes order (HaveEnd order out out' Journal) × CountsStay faults faults' short short'
 OrderOutcome bytes counts counts' order out out' faults faults' short short' Write =
-    OfShort bytes order (HavePrefix order out out') × Rose faults faults'
+    OfShort bytes order (HavePrefix order out out') × (faults ≤ faults') × Rose faults faults' × (short' ≡ short)
 OrderOutcome bytes counts counts' order out out' faults faults' short short' Memory =
-    (Keeps out out' ⊎ OfShort bytes order (HavePrefix order out out')) × (faults' ≡ faults)
+    (Keeps out out' ⊎ OfShort bytes order (HavePrefix order out out')) × (faults' ≡ faults) × (short ≤ short')
 OrderOutcome bytes counts counts' order out out' faults faults' short short' status =
-    NoEnd bytes counts counts' order status × Keeps out out' × (faults' ≡ faults)
+    NoEnd bytes counts counts' order status × Keeps out out' × CountsStay faults faults' short short'
 
 -- how words end: as usage where they give no order, and else as their order
 abbrev pub WordsOutcome : (List ℕ → Option (List ℕ)) → (List ℕ → ℕ) → (List ℕ → ℕ) → Option OrderValue → Option (List ℕ) → Option (List ℕ) → ℕ → ℕ → ℕ → ℕ → Status → Type 0
-WordsOutcome bytes counts counts' None out out' faults faults' short short' status = (status ≡ Usage) × Keeps out out' × (faults' ≡ faults)
+WordsOutcome bytes counts counts' None out out' faults faults' short short' status =
+    (status ≡ Usage) × Keeps out out' × CountsStay faults faults' short short'
 WordsOutcome bytes counts counts' (Some order) out out' faults faults' short short' status =
     OrderOutcome bytes counts counts' order out out' faults faults' short short' status
 

@@ -4,12 +4,14 @@ use Rattle.std.specs.Io.KnownBytes.{Appends}
 use Rattle.felm_term.specs.declared.event.Event.{Event}
 use Rattle.felm_term.specs.declared.limits.Limits.{Limits}
 use Rattle.felm_graph.specs.GraphValue.{GraphValue}
-use Rattle.felm_meaning.specs.Meaning.{msg, IsThere}
-use Rattle.felm_meaning.specs.Journals.{IsLegal, IsComplete}
+use Rattle.felm_meaning.specs.Meaning.{row, msg, IsThere}
+use Rattle.felm_meaning.specs.Journals.{IsLegal, IsComplete, IsLeastNone}
 use Rattle.felm_meaning.specs.Ends.{IsStopped, IsOverDefault, IsFull}
 use Rattle.felm_printer.specs.declared.result.Closing.TheVariants as closing
 use Rattle.felm_printer.specs.declared.status.Status.{Status}
 use Rattle.felm_printer.specs.declared.status.Status.TheVariants.{Success, Read, TooLong, Syntax, Turn, Journal, Write, Memory}
+use Rattle.felm_printer.specs.declared.status.SyntaxCause.{SyntaxCause}
+use Rattle.felm_printer.specs.declared.status.SyntaxCause.TheVariants.{NoToken, Wide, Grammar, Depth, Twice}
 use Rattle.felm_printer.specs.declared.status.Which.TheVariants.{Program, Script}
 use Rattle.felm_printer.specs.Results.{result_text, stopped_text}
 use Rattle.felm_printer.specs.Graphs.{graph_text}
@@ -30,11 +32,13 @@ HaveResult (Graph p limits) out out' program script =
 
 -- ---- runs that are cut short
 
--- the run of the plan stops at a call over budget, and the stopped text of its journal is appended
+-- the run of the plan stops at a call over budget, of the least node without a message there or without a default, and the
+-- stopped text of its journal is appended
 abbrev pub HaveStop : OrderValue → ℕ → ℕ → Option (List ℕ) → Option (List ℕ) → List ℕ → List ℕ → Type 0
 HaveStop (Sync p s limits) node position out out' program script =
     (plan : Planned) × HavePlan program script limits.stage_steps plan
     × IsStopped plan.graph limits.turn_steps plan.script (journal_of limits plan) node position
+    × IsLeastNone plan.graph (row plan.graph limits.turn_steps (journal_of limits plan) position) node
     × (position ≡ length (journal_of limits plan))
     × Appends out out' (stopped_text plan.graph (journal_of limits plan) node position)
 HaveStop (Graph p limits) node position out out' program script = ⊥
@@ -67,14 +71,22 @@ ComeTo order program script (Turn node position) = CanEnd order program script (
 ComeTo order program script Journal = CanEnd order program script Journal
 ComeTo order program script status = (is_short program ≡ true) × (is_short script ≡ true) × AreFaulty order program script status
 
--- of the faults of a program's text the cause and the place aren't fixed
-abbrev pub IsSyntax : Status → Type 0
-IsSyntax (Syntax cause at) = ⊤
-IsSyntax _ = ⊥
+-- a fault of a text whose tokens are no program
+abbrev pub IsOfTokens : Status → Type 0
+IsOfTokens (Syntax Grammar at) = ⊤
+IsOfTokens (Syntax Depth at) = ⊤
+IsOfTokens (Syntax Twice at) = ⊤
+IsOfTokens _ = ⊥
 
--- the same status; a fault of the program's text may have another cause and place
+-- the same fault of the program's text; where its tokens are no program, the cause among these and the place may differ
+abbrev pub IsOneFault : SyntaxCause → ℕ → Status → Type 0
+IsOneFault NoToken at status = status ≡ Syntax NoToken at
+IsOneFault Wide at status = status ≡ Syntax Wide at
+IsOneFault _ at status = IsOfTokens status
+
+-- the same status, or the same fault of the program's text
 abbrev pub IsOneWith : Status → Status → Type 0
-IsOneWith (Syntax cause at) status = IsSyntax status
+IsOneWith (Syntax cause at) status = IsOneFault cause at status
 IsOneWith expected status = status ≡ expected
 
 -- the status is the expected one, unless a load failed, a put of its text failed, or there was no memory

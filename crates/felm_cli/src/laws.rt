@@ -1,5 +1,5 @@
 //! Laws of what texts come to: functions whose body does nothing, each for the sake of its contract.
-ghost use Rattle.felm_cli.specs.Laws.{OnePlan, OneGraph, FaultyTextsAreNoPrograms, FaultyProgramsAreUntyped, TextsComeToOneEnd};
+ghost use Rattle.felm_cli.specs.Laws.{OnePlan, OneGraph, TextsAreProgramsOrFaulty, FaultyTextsAreNoPrograms, FaultyProgramsAreUntyped, TextsComeToOneEnd};
 
 /// Two texts have at most one plan.
 pub fn one_plan()
@@ -9,6 +9,11 @@ pub fn one_plan()
 /// A text has at most one graph.
 pub fn one_graph()
     ensures { OneGraph }
+{}
+
+/// Each text is a program or has a fault of its text.
+pub fn texts_are_programs_or_faulty()
+    ensures { TextsAreProgramsOrFaulty }
 {}
 
 /// A text with a fault is no program.
@@ -21,7 +26,8 @@ pub fn faulty_programs_are_untyped()
     ensures { FaultyProgramsAreUntyped }
 {}
 
-/// The texts of an order come to at most one status; where they are no program, its cause and place may differ.
+/// The texts of an order come to at most one status; where the tokens of the program's text are no
+/// program, its cause and place may differ.
 pub fn texts_come_to_one_end()
     ensures { TextsComeToOneEnd }
 {}

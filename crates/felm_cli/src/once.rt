@@ -100,16 +100,18 @@ pub fn felm_once<F: Files, S: Sink, E: Sink>(
     // Want of memory leaves nothing, or a prefix of a text that the order may leave.
     ensures memory { result ≡ Status.Memory → OfOrder (order_of (map string_bytes words.now))
         (λ order. Keeps (S.bytes out.old) (S.bytes out.new) ⊎ OfShort (F.bytes files.old) order (HavePrefix order (S.bytes out.old) (S.bytes out.new))) }
-    // Any but success, a stop, a full journal, a refused put and want of memory leaves `out` as it was.
-    ensures quiet { OnQuiet result (Keeps (S.bytes out.old) (S.bytes out.new)) }
+    // Any but success, a stop, a full journal, a refused put and want of memory leaves `out` as it was, its counts too.
+    ensures quiet { OnQuiet result (Keeps (S.bytes out.old) (S.bytes out.new) × CountsStay (S.faults out.old) (S.faults out.new) (S.short out.old) (S.short out.new)) }
 
     // The line of the status is put to `err`, whole, or a prefix of it where a put was refused in this call.
     ensures fault { FaultPut (fault_text result (file_named (order_of (map string_bytes words.now)) result) (limits_named (order_of (map string_bytes words.now))))
         (E.bytes err.old) (E.bytes err.new) (E.faults err.old) (E.faults err.new) (E.short err.old) (E.short err.new) }
 
-    // The files stay as they are, and their counts never fall.
+    // The files stay as they are, and no count ever falls.
     ensures files { (name : List ℕ) → F.bytes files.new name ≡ F.bytes files.old name }
     ensures counts { (name : List ℕ) → F.faults files.old name ≤ F.faults files.new name }
+    ensures out_counts { (S.faults out.old ≤ S.faults out.new) × (S.short out.old ≤ S.short out.new) }
+    ensures err_counts { (E.faults err.old ≤ E.faults err.new) × (E.short err.old ≤ E.short err.new) }
 {
     let Some(order) = read_words(words) else {
         tell(&Status::Usage, "", &default_limits(), err);

@@ -1,5 +1,5 @@
 -- Fault lines.
-use Rattle.std.specs.Prelude.{ℕ, ◌++◌, ◌⊎◌, List, [], codes, Option}
+use Rattle.std.specs.Prelude.{◌≡◌, ℕ, ◌≤◌, ◌++◌, ◌⊎◌, List, [], codes, Option}
 use Rattle.std.specs.Fmt.{decimal}
 use Rattle.std.specs.Io.KnownBytes.{Appends}
 use Rattle.felm_term.specs.declared.limits.Limits.{Limits}
@@ -69,7 +69,13 @@ fault_text Journal file limits = codes "felm: the journal is full at " ++ decima
 fault_text Write file limits = codes "felm: cannot write\n"
 fault_text Memory file limits = codes "felm: out of memory\n"
 
--- the whole line was put, or a prefix of it where a put was refused
+-- a put was refused: the count of its cause rose, and the other one stayed
+abbrev pub IsRefused : ℕ → ℕ → ℕ → ℕ → Type 0
+IsRefused faults faults' short short' =
+    ((faults ≤ faults') × Rose faults faults' × (short' ≡ short)) ⊎ ((short ≤ short') × Rose short short' × (faults' ≡ faults))
+
+-- the whole line was put and the counts stayed, or a prefix of it was where a put was refused
 abbrev pub FaultPut : List ℕ → Option (List ℕ) → Option (List ℕ) → ℕ → ℕ → ℕ → ℕ → Type 0
 FaultPut line old new faults faults' short short' =
-    Appends old new line ⊎ (AppendsPrefix old new line × (Rose faults faults' ⊎ Rose short short'))
+    (Appends old new line × (faults' ≡ faults) × (short' ≡ short))
+    ⊎ (AppendsPrefix old new line × IsRefused faults faults' short short')

@@ -46,10 +46,14 @@ abbrev pub event_line : ℕ → List ℕ → Event → Message → List ℕ
 event_line position source event message =
     decimal position ++ codes " " ++ source ++ codes " " ++ value_text event.value ++ codes " " ++ message_text message ++ codes "\n"
 
--- the lines of the events from a position on, each with its message, as far as there are messages
+-- the line of an event alone, as a run that stops has it
+abbrev pub stopped_line : ℕ → List ℕ → Event → List ℕ
+stopped_line position source event = decimal position ++ codes " " ++ source ++ codes " " ++ value_text event.value ++ codes "\n"
+
+-- the lines of the events from a position on, each with its message; so that a text tells its events, one without has its line too
 abbrev pub event_lines : GraphValue → ℕ → List Event → List Message → List ℕ
 event_lines g position [] messages = []
-event_lines g position (event ∷ events) [] = []
+event_lines g position (event ∷ events) [] = stopped_line position (source_text g event.source) event ++ event_lines g (position + 1) events []
 event_lines g position (event ∷ events) (message ∷ messages) =
     event_line position (source_text g event.source) event message ++ event_lines g (position + 1) events messages
 
@@ -62,7 +66,7 @@ closing_text Full = codes "full "
 abbrev pub closing_line : Closing → ℕ → List ℕ
 closing_line closing count = closing_text closing ++ decimal count ++ codes "\n"
 
--- a default, a line for each event of a journal that has a message, and the last line, which counts all events
+-- a default, a line for each event of a journal, and the last line, which counts them
 abbrev pub history_text : GraphValue → Option Value → List Event → List Message → Closing → List ℕ
 history_text g default journal outputs closing =
     codes "felm-result 1\n0 default " ++ option_map_or value_text default [] ++ codes "\n"
@@ -74,10 +78,6 @@ abbrev pub result_text : GraphValue → ℕ → List Event → Closing → List 
 result_text g b j closing = history_text g (val g b j g.main 0) j (sends g b j g.main (length j)) closing
 
 -- ---- stopped runs
-
--- the line of an event
-abbrev pub stopped_line : ℕ → List ℕ → Event → List ℕ
-stopped_line position source event = decimal position ++ codes " " ++ source ++ codes " " ++ value_text event.value ++ codes "\n"
 
 -- the lines of the events from a position on
 abbrev pub stopped_lines : GraphValue → ℕ → List Event → List ℕ
