@@ -2,3 +2,9 @@ pub mod Prefixes
 pub mod Pieces
 pub mod SourceTables
 pub mod Lines
+pub mod Cuts
+pub mod Digits
+pub mod JournalSources
+pub mod SourceNames
+pub mod LineSources
+pub mod TextLaws

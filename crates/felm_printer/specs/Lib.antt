@@ -4,3 +4,5 @@ pub mod Results
 pub mod Sources
 pub mod Terms
 pub mod Graphs
+pub mod Names
+pub mod Laws
