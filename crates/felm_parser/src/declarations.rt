@@ -1,5 +1,5 @@
 //! Declarations of inputs.
-ghost use Rattle.std.specs.Prelude.{◌≡◌, false, bytes_eq, IfOk};
+ghost use Rattle.std.specs.Prelude.{◌≡◌, ◌≢◌, false, bytes_eq, IfOk, IfErr};
 ghost use Rattle.std.specs.List.{list_any};
 ghost use Rattle.felm_term.specs.Inputs.{names_of};
 ghost use Rattle.felm_syntax.specs.InputMap.{declaration as declared_input};
@@ -19,6 +19,7 @@ use felm_term::InputTy;
 fn new_name<'a, 'b>(text: &'a [u8], seen: &InputMap, tokens: &'b [Token]) -> Reading<'b, &'a str>
     ensures reads { Gives (λ x. (x.0.now, x.1.now)) result (new_name text.now seen.now tokens.now) }
     ensures new { IfOk result (λ x. list_any (bytes_eq x.0.now) (names_of seen.now) ≡ false) }
+    ensures not_memory { IfErr result (λ fault. fault ≢ ParseFault.Memory) }
 {
     let (name, rest) = name(text, tokens)?;
     if seen.find(name).is_some() {
@@ -32,7 +33,8 @@ fn new_name<'a, 'b>(text: &'a [u8], seen: &InputMap, tokens: &'b [Token]) -> Rea
 /// What is declared of a name behind `int`.
 #[tactic(auto, unfolding(felm_reading::specs::Reading::int_input))]
 fn int_input<'a>(text: &[u8], name: &str, tokens: &'a [Token]) -> Reading<'a, Declared>
-    ensures { Gives (λ x. (declared_input name.now x.0, x.1.now)) result (int_input text.now name.now tokens.now) }
+    ensures reads { Gives (λ x. (declared_input name.now x.0, x.1.now)) result (int_input text.now name.now tokens.now) }
+    ensures not_memory { IfErr result (λ fault. fault ≢ ParseFault.Memory) }
 {
     let rest = expect(text, Symbol::Equals, after(tokens))?;
     let (default, rest) = literal(text, rest)?;
@@ -48,7 +50,8 @@ fn int_input<'a>(text: &[u8], name: &str, tokens: &'a [Token]) -> Reading<'a, De
 /// What is declared of a name behind `unit`.
 #[tactic(auto, unfolding(felm_reading::specs::Reading::unit_input))]
 fn unit_input<'a>(text: &[u8], name: &str, tokens: &'a [Token]) -> Reading<'a, Declared>
-    ensures { Gives (λ x. (declared_input name.now x.0, x.1.now)) result (unit_input text.now name.now tokens.now) }
+    ensures reads { Gives (λ x. (declared_input name.now x.0, x.1.now)) result (unit_input text.now name.now tokens.now) }
+    ensures not_memory { IfErr result (λ fault. fault ≢ ParseFault.Memory) }
 {
     let rest = expect(text, Symbol::Equals, after(tokens))?;
     let rest = expect(text, Symbol::OpenBracket, rest)?;
@@ -65,7 +68,8 @@ fn unit_input<'a>(text: &[u8], name: &str, tokens: &'a [Token]) -> Reading<'a, D
 /// What is declared of a name behind its colon.
 #[tactic(auto, unfolding(felm_reading::specs::Reading::described))]
 fn described<'a>(text: &[u8], name: &str, tokens: &'a [Token]) -> Reading<'a, Declared>
-    ensures { Gives (λ x. (declared_input name.now x.0, x.1.now)) result (described text.now name.now tokens.now) }
+    ensures reads { Gives (λ x. (declared_input name.now x.0, x.1.now)) result (described text.now name.now tokens.now) }
+    ensures not_memory { IfErr result (λ fault. fault ≢ ParseFault.Memory) }
 {
     if has_word(WordKind::Int, tokens) {
         return int_input(text, name, tokens);
@@ -87,6 +91,7 @@ pub fn declaration<'a, 'b>(
 ) -> Result<(&'a str, Declared, &'b [Token]), ParseFault>
     ensures reads { Gives (λ x. (declared_input x.0.now x.1, x.2.now)) result (declaration text.now seen.now tokens.now) }
     ensures new { IfOk result (λ x. list_any (bytes_eq x.0.now) (names_of seen.now) ≡ false) }
+    ensures not_memory { IfErr result (λ fault. fault ≢ ParseFault.Memory) }
 {
     let (name, rest) = new_name(text, seen, after(tokens))?;
     let rest = expect(text, Symbol::Colon, rest)?;

@@ -2,7 +2,7 @@
 //!
 //! `room` is how much deeper tokens may nest. Only phrases that nest deeper recurse with less of it,
 //! and chains and applications are loops, so it bounds the recursion.
-ghost use Rattle.std.specs.Prelude.{◌≡◌, ◌≤◌};
+ghost use Rattle.std.specs.Prelude.{◌≡◌, ◌≢◌, ◌≤◌, IfErr};
 ghost use Rattle.felm_parser.specs.Gives.{Gives};
 ghost use Rattle.felm_parser.specs.Chains.{chain_of};
 ghost use Rattle.felm_reading.specs.Reading.{Whole, reads_in, type_in, atom, bracketed, atoms, applied, lift, foldp, async_of, negative, operand, part_of, cmp, function, binding, choice, expr};
@@ -24,7 +24,8 @@ use std::alloc::Global;
 /// A negative number.
 #[tactic(auto, unfolding(felm_reading::specs::Reading::negative))]
 fn negative<'a>(text: &[u8], tokens: &'a [Token]) -> Reading<'a, Expr>
-    ensures { Gives (λ x. (x.0, x.1.now)) result (negative text.now tokens.now) }
+    ensures reads { Gives (λ x. (x.0, x.1.now)) result (negative text.now tokens.now) }
+    ensures not_memory { IfErr result (λ fault. fault ≢ ParseFault.Memory) }
 {
     let (number, rest) = negated_numeral(text, after(tokens))?;
     let at = place(text, tokens);

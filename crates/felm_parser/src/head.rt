@@ -1,5 +1,5 @@
 //! What stands first in a list of tokens.
-ghost use Rattle.std.specs.Prelude.{◌≡◌, ◌≤◌, IfSome, Some, drop};
+ghost use Rattle.std.specs.Prelude.{◌≡◌, ◌≢◌, ◌≤◌, IfSome, IfErr, Some, drop};
 ghost use Rattle.felm_parser.specs.Gives.{Gives, fault_of};
 ghost use Rattle.felm_reading.specs.Reading.{place, has_mark, has_word, starts_atom, lift_at, starts_operand, starts_expr, starts_type, refused, expect, expect_word, operator_at, comparison_at};
 
@@ -144,7 +144,8 @@ pub fn expect<'a>(
     symbol: Symbol,
     tokens: &'a [Token],
 ) -> Result<&'a [Token], ParseFault>
-    ensures { Gives (λ rest. rest.now) result (expect text.now symbol tokens.now) }
+    ensures reads { Gives (λ rest. rest.now) result (expect text.now symbol tokens.now) }
+    ensures not_memory { IfErr result (λ fault. fault ≢ ParseFault.Memory) }
 {
     if has_mark(symbol, tokens) {
         Ok(after(tokens))
@@ -162,7 +163,8 @@ pub fn expect_word<'a>(
     word: WordKind,
     tokens: &'a [Token],
 ) -> Result<&'a [Token], ParseFault>
-    ensures { Gives (λ rest. rest.now) result (expect_word text.now word tokens.now) }
+    ensures reads { Gives (λ rest. rest.now) result (expect_word text.now word tokens.now) }
+    ensures not_memory { IfErr result (λ fault. fault ≢ ParseFault.Memory) }
 {
     if has_word(word, tokens) {
         Ok(after(tokens))

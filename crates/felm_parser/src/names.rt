@@ -1,5 +1,5 @@
 //! Names.
-ghost use Rattle.std.specs.Prelude.{◌≡◌};
+ghost use Rattle.std.specs.Prelude.{◌≡◌, ◌≢◌, IfErr};
 ghost use Rattle.std.specs.Option.{option_map};
 ghost use Rattle.felm_syntax.specs.Kinds.{name_of};
 ghost use Rattle.felm_parser.specs.Gives.{Gives};
@@ -27,7 +27,8 @@ pub fn name_of<'a>(text: &'a [u8], token: &Token) -> Option<&'a str>
 /// The name that must stand first, and the tokens behind it.
 #[tactic(auto, unfolding(felm_reading::specs::Reading::name))]
 pub fn name<'a, 'b>(text: &'a [u8], tokens: &'b [Token]) -> Reading<'b, &'a str>
-    ensures { Gives (λ x. (x.0.now, x.1.now)) result (name text.now tokens.now) }
+    ensures reads { Gives (λ x. (x.0.now, x.1.now)) result (name text.now tokens.now) }
+    ensures not_memory { IfErr result (λ fault. fault ≢ ParseFault.Memory) }
 {
     let [first, rest @ ..] = tokens else {
         return Err(ParseFault::Syntax { at: text.len() });
