@@ -6,7 +6,7 @@ use Rattle.std.proofs.Math.ListN.{set}
 use Rattle.std.proofs.Math.Seq.{drop-cons, set-append_seam}
 use Rattle.std.proofs.lemmas.Option.{slice_get-get_or, get_or_from_slice_get, slice_get_read}
 use Rattle.std.proofs.lemmas.Grind.{common_steps}
-use Rattle.std.proofs.lemmas.List.{get_or-map, length-map, length-append, length-drop, append-nil, get_or_append_left, get_or-append_right, get_or_push, map-set}
+use Rattle.std.proofs.lemmas.List.{get_or-map, length-map, length-append, length-drop, append-nil, get_or_append_left, get_or-append_right, get_or_push, map-set, drop-map, drop_at}
 use Rattle.felm_term.specs.Values.{value_of}
 use Rattle.felm_term.specs.declared.value.Value.{Value}
 use Rattle.felm_term.specs.declared.value.Value.TheVariants as value
@@ -47,6 +47,13 @@ all-messages ms (a ∷ places) h =
     let e : at (row_of ms) a ≡ Some (message_at ms a) = row-message ms a l in
     let ih : all_of (map (at (row_of ms)) places) ≡ Some (messages_at ms places) = all-messages ms places (λ k d n. h (suc k) d (omega arith)) in
     rw (e, ih) refl
+
+-- messages that make one row are the same
+same_messages : (ms ns : List Message) → row_of ms ≡ row_of ns → ms ≡ ns
+same_messages [] [] h = refl
+same_messages [] (n ∷ ns) h = cc
+same_messages (m ∷ ms) [] h = cc
+same_messages (m ∷ ms) (n ∷ ns) h = cc (same_messages ms ns (cc))
 
 drop_all : {X : Type 0} (xs : List X) (n : ℕ) → length xs ≤ n → drop n xs ≡ []
 drop_all [] zero h = refl
@@ -266,6 +273,13 @@ module _ {g : GraphValue} {b : ℕ} {old : List (Option Message)} {e : Event} {i
   part_last : at (row_to g b old e (suc i)) i ≡ message_of g b old e (row_to g b old e i) i
   unfolding row_to
   part_last = get_or_push (row_to g b old e i) (message_of g b old e (row_to g b old e i) i) None i (length-row_to g b old e i)
+
+  -- the nodes from i on have what they had
+  pub part_rest : (first : List Message) → old ≡ row_of first → drop i ms ≡ drop i first
+  part_rest first h =
+      let rows : drop i (row_of ms) ≡ drop i (row_of first) =
+      ap (drop i) p.row ∙ (drop_at (row_to g b old e i) (drop i old) i (length-row_to g b old e i) ∙ ap (drop i) h) in
+      same_messages (drop i ms) (drop i first) (sym (drop-map (λ m. Some m) i ms) ∙ (rows ∙ drop-map (λ m. Some m) i first))
 
   -- the least node without a message
   pub part_ends : message_of g b (row_of ms) e (row_of ms) i ≡ None → IsLeastNone g (row_to g b old e (length g.nodes)) i

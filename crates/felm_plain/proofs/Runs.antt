@@ -204,10 +204,6 @@ module _ {g : GraphValue} {b : ℕ} {script : List Event} {limit : ℕ} {j : Lis
               (sym (length-append (inputs_in g j) (e ∷ [])) ∙ ap length (sym (inputs-more g j e i))));
         }
 
-    -- or there is none
-    pub takes_nothing : (after : List (List Value)) → after ≡ queues → Keeps g b script limit j j ms after outputs cursor
-    takes_nothing after q = subst (λ (x : List (List Value)). Keeps g b script limit j j ms x outputs cursor) (sym q) k
-
   -- ---- it is entered
 
   module _ (e : Event) (k : Keeps g b script limit j (j ++ e ∷ []) ms queues outputs cursor) (n : next g b script j ≡ Some e) where

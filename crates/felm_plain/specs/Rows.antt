@@ -1,5 +1,5 @@
 -- The last messages of all nodes, as a row of the meaning.
-use Rattle.std.specs.Prelude.{◌≡◌, ℕ, Bool, true, false, List, [], ◌∷◌, ◌++◌, Option, Some, None, length, map, slice_set}
+use Rattle.std.specs.Prelude.{◌≡◌, ℕ, Bool, true, false, List, [], ◌∷◌, ◌++◌, Option, Some, None, length, map, drop, slice_set}
 use Rattle.felm_term.specs.Values.{value_of}
 use Rattle.felm_term.specs.declared.value.Value.{Value}
 use Rattle.felm_term.specs.declared.message.Message.{Message}
@@ -30,10 +30,10 @@ MayStep nodes k messages =
     (w : Job) (ms : List Message) → job_of nodes k ≡ Some w → all_of (map (at (row_of messages)) (arguments_of nodes k)) ≡ Some ms
     → TurnFits w (kept_at messages k) ms
 
--- node k has sent this message, which is its last one now; or there is none
+-- node k has sent this message, which is its last one now; or there is none, and all messages stay
 abbrev pub Sends : List Message → ℕ → Option Message → List Message → Bool → Type 0
 Sends old k message new true = row_of new ≡ slice_set (row_of old) k message
-Sends old k message new false = message ≡ None
+Sends old k message new false = (message ≡ None) × (new ≡ old)
 
 -- ---- all nodes
 
@@ -43,7 +43,7 @@ pub record Precedes (g : GraphValue) (b : ℕ) (messages : List Message) (e : Ev
   pub row : row_of messages ≡ row g b journal (length journal)
   pub fit : EventsFit g (journal ++ e ∷ [])
 
--- the messages are those of the next row; or this is the least node that has none there
+-- the messages are those of the next row; or this is the least node that has none there, and those from it on stay
 abbrev pub AdvancesTo : GraphValue → ℕ → Event → List Message → List Message → Option ℕ → Type 0
 AdvancesTo g b e old new None = row_of new ≡ row_to g b (row_of old) e (length g.nodes)
-AdvancesTo g b e old new (Some k) = IsLeastNone g (row_to g b (row_of old) e (length g.nodes)) k
+AdvancesTo g b e old new (Some k) = IsLeastNone g (row_to g b (row_of old) e (length g.nodes)) k × (drop k new ≡ drop k old)

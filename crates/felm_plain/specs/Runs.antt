@@ -32,6 +32,7 @@ abbrev pub AreDefaults : GraphValue → ℕ → List Value → Type 0
 AreDefaults g b values =
     (length values ≡ length g.nodes) × ((k : ℕ) → k < length g.nodes → val g b [] k 0 ≡ slice_get values k)
 
+-- a run of the plan has come as far as its journal, and has taken these events
 abbrev pub Stands : Plan → Run → List Event → Type 0
 Stands p r taken =
     Keeps p.graph p.limits.turn_steps p.script.items p.limits.journal r.journal.items taken r.row r.queues r.outputs.items r.cursor
@@ -48,9 +49,9 @@ IsBegun p r = IsBetween p r × (r.journal.items ≡ [])
 abbrev pub next_in : Plan → Run → Option Event
 next_in p r = next p.graph p.limits.turn_steps p.script.items r.journal.items
 
--- the run has taken the event that comes next, if there is one
+-- the run has taken the event that comes next; or there is none, and the run stays
 abbrev pub TakesNext : Plan → Run → Run → Option Event → Type 0
-TakesNext p before after None = IsBetween p after × (next_in p after ≡ None)
+TakesNext p before after None = (next_in p after ≡ None) × (after ≡ before)
 TakesNext p before after (Some e) =
     Stands p after (after.journal.items ++ e ∷ []) × (next_in p after ≡ Some e) × (after.journal.items ≡ before.journal.items)
 

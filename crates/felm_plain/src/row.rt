@@ -77,7 +77,7 @@ impl Row {
         Ok(None)
     }
 
-    // Sends a node's message at an event, unless its call is over budget.
+    // Sends a node's message at an event, unless its call is over budget; then the row stays.
     fn step(
         &mut self,
         alloc: Global,

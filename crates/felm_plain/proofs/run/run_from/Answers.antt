@@ -1,14 +1,15 @@
 use Rattle.std.proofs.Common.{◌∙◌, ap, sym, refl, subst, arith, Some}
 use Rattle.std.proofs.lemmas.Bool.{false≢true}
-use Rattle.felm_plain.specs.Runs.{next_in, TakesNext, Enters}
+use Rattle.felm_plain.specs.Runs.{IsBetween, next_in, TakesNext, Enters}
 use Rattle.felm_plain.proofs.Runs.{some_event, no_event, ends_complete, ends_stopped, ends_full}
 use Rattle.felm_plain.proofs.run.run_from.Goals as goal
 
 pub returns-in_default : goal.returns-in_default
 returns-in_default c =
     let t = subst (TakesNext c.args.plan.now c.loop-entered.run c.take_next.new.self) c.in_default.is c.in_ok-event.ensures in
-    ends_complete t.0
-    c.history.result (c.loop-entered.invariant.default ∙ ap (λ v. Some v) (sym c.history.ensures.default)) c.history.ensures.journal c.history.ensures.outputs t.1
+    let between = subst (IsBetween c.args.plan.now) (sym t.1) c.loop-entered.invariant.between in
+    ends_complete between
+    c.history.result (c.loop-entered.invariant.default ∙ ap (λ v. Some v) (sym c.history.ensures.default)) c.history.ensures.journal c.history.ensures.outputs t.0
 
 pub returns-in-Some-2 : goal.returns-in-Some-2
 returns-in-Some-2 c =

@@ -27,7 +27,7 @@ pub returns-in-Some : goal.returns-in-Some
 returns-in-Some c =
     let a = subst (AdvancesTo c.args.plan.now.graph c.args.plan.now.limits.turn_steps c.args.event c.args.self.now.row c.advance.new.self) c.in-Some.is c.in_ok-stopped.ensures in
     let s = stops c.args.event c.requires.taken c.requires.next
-    c.push.new.self.items c.in-Some.node c.requires.room c.in_ok-push.ensures.ok a in
+    c.push.new.self.items c.in-Some.node c.requires.room c.in_ok-push.ensures.ok a.0 in
     (c.in_ok-push.ensures.ok, s.0, s.1)
 
 pub returns-in_ok-push-in-None : goal.returns-in_ok-push-in-None

@@ -1,7 +1,8 @@
 use Rattle.std.proofs.Common.{◌≡◌, ◌∙◌, ap, sym, refl, List, ◌+◌, Some, None}
 use Rattle.std.specs.List.{slice_get}
 use Rattle.felm_term.specs.declared.event.Event.{Event}
-use Rattle.felm_plain.proofs.Runs.{waiting_comes, scripted_comes, takes_waiting, takes_scripted, takes_nothing}
+use Rattle.felm_term.specs.declared.value.Value.{Value}
+use Rattle.felm_plain.proofs.Runs.{waiting_comes, scripted_comes, takes_waiting, takes_scripted}
 use Rattle.felm_plain.proofs.run.Run.take_next.Goals as goal
 
 pub returns-in-Some : goal.returns-in-Some
@@ -24,4 +25,5 @@ pub returns-in-None : goal.returns-in-None
 returns-in-None c =
     let here : slice_get c.args.plan.now.script.items c.args.self.now.cursor ≡ None =
     sym (ap (λ (es : List Event). slice_get es c.args.self.now.cursor) c.as_slice.ensures) ∙ (sym c.in_ok-event.ensures ∙ c.in-None.is) in
-    (takes_nothing c.requires c.take_first.new.self c.in_default.ensures.1, scripted_comes c.requires None c.in_default.ensures.0 here)
+    let stays = ap (λ (queues : List (List Value)). record c.args.self.now { queues = queues }) c.in_default.ensures.1 in
+    (scripted_comes c.requires None c.in_default.ensures.0 here, stays)
