@@ -5,3 +5,4 @@ pub mod Histories
 pub mod Exact
 pub mod Outcomes
 pub mod Clauses
+pub mod Texts

@@ -1,5 +1,5 @@
 //! Laws of what texts come to: functions whose body does nothing, each for the sake of its contract.
-ghost use Rattle.felm_cli.specs.Laws.{OnePlan, OneGraph, TextsAreProgramsOrFaulty, FaultyTextsAreNoPrograms, FaultyProgramsAreUntyped, TextsComeToOneEnd};
+ghost use Rattle.felm_cli.specs.Laws.{OnePlan, OneGraph, TextsNameTheirJournals, TextsAreProgramsOrFaulty, FaultyTextsAreNoPrograms, FaultyProgramsAreUntyped, TextsComeToOneEnd};
 
 /// Two texts have at most one plan.
 pub fn one_plan()
@@ -9,6 +9,12 @@ pub fn one_plan()
 /// A text has at most one graph.
 pub fn one_graph()
     ensures { OneGraph }
+{}
+
+/// The bytes of a result text of a plan of two texts name its journal, and so do those of a stopped
+/// text: no other legal journal of the plan has them.
+pub fn texts_name_their_journals()
+    ensures { TextsNameTheirJournals }
 {}
 
 /// Each text is a program or has a fault of its text.

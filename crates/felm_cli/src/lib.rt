@@ -14,7 +14,7 @@ pub use felm_printer::{
 };
 pub use laws::{
     faulty_programs_are_untyped, faulty_texts_are_no_programs, one_graph, one_plan,
-    texts_are_programs_or_faulty, texts_come_to_one_end,
+    texts_are_programs_or_faulty, texts_come_to_one_end, texts_name_their_journals,
 };
 pub use once::felm_once;
 pub use over_sure::felm_over_sure;
