@@ -64,7 +64,7 @@ impl Run {
         self.queues.least().is_some() || self.cursor < plan.script.len()
     }
 
-    // Enters the event that was taken. The answer is the least node without a message there.
+    // Enters the event that was taken. The answer is the least node without a message there, if any.
     fn enter(&mut self, alloc: Global, plan: &Plan, event: Event) -> Result<Option<u32>, Memory>
         requires taken { Stands plan.now self.old (self.old.journal.items ++ event ∷ []) }
         requires next { next_in plan.now self.old ≡ Some event }
@@ -113,7 +113,8 @@ fn event_at(script: &[Event], place: usize) -> Result<Option<Event>, Memory>
 /// Runs a plan on one thread: each event that comes next is entered, until nothing comes next, a
 /// turn is over budget or the journal is full.
 ///
-/// For each event every node is looked at once; only nodes with an argument that changed are called.
+/// For each event every node is looked at a fixed number of times; only nodes with an argument that
+/// changed are called.
 pub fn plain_run(alloc: Global, plan: &Plan) -> Result<RunEnd, Memory>
     ensures { IfOk result (IsEndOf plan.now.graph plan.now.limits.turn_steps plan.now.script.items plan.now.limits.journal) }
 {
