@@ -1,0 +1,17 @@
+pub mod Wiring
+pub mod Turns
+pub mod Events
+pub mod Runs
+pub mod Messages
+pub mod Sent
+pub mod Entered
+pub mod Sticks
+pub mod Changes
+pub mod Bound
+pub mod Scripted
+pub mod Heads
+pub mod Measures
+pub mod Ends
+pub mod Stays
+pub mod Room
+pub mod Holds
