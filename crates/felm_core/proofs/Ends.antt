@@ -8,12 +8,13 @@ use Rattle.felm_term.specs.declared.event.Event.{Event}
 use Rattle.felm_graph.specs.Nodes.{arguments_of}
 use Rattle.felm_graph.specs.Graphs.{IsGraph}
 use Rattle.felm_meaning.specs.Meaning.{msg, val, value_at, changes, IsThere}
-use Rattle.felm_meaning.specs.Journals.{inputs_in, entered, waiting, event_at, first_waiting, IsLegal, IsComplete}
-use Rattle.felm_meaning.specs.Ends.{IsOver, IsOverTurn, IsFull, IsUnfinished}
+use Rattle.felm_meaning.specs.Journals.{inputs_in, entered, waiting, event_at, first_waiting}
+use Rattle.felm_meaning.specs.Ends.{IsOver, IsOverTurn, IsUnfinished}
 use Rattle.felm_meaning.proofs.Graphs.{ordered}
 use Rattle.felm_meaning.proofs.Rows.{there_within}
 use Rattle.felm_meaning.proofs.Causes.{concluded}
 use Rattle.felm_meaning.specs.PlanValue.{PlanValue}
+use Rattle.felm_meaning.specs.OfPlans.{IsLegalFor, IsCompleteFor, IsFullFor}
 use Rattle.felm_core.specs.Positions.{StopValue, Position, done_at, Reads, IsStop, IsSound, IsSettled}
 use Rattle.felm_core.specs.Contents.{waiting_at}
 use Rattle.felm_core.proofs.Wiring.{reads_some}
@@ -65,26 +66,26 @@ module _ (s : PlanValue) (c : Position) (graph : IsGraph s.graph) (sound : IsSou
       ap (λ (o : Option Value). option_or (first_waiting s.graph s.budget c.journal n) (event_at n o)) w ∙
       ap (λ (o : Option Event). option_or o None) (nothing_waits settled none n (omega arith))
 
-  pub rests_complete : (script : List Event) → IsLegal s.graph s.budget script c.journal → IsSettled s c
-      → ((a : ℕ) → a < length s.graph.nodes → waiting_at s c a ≡ []) → length script ≤ length (inputs_in s.graph c.journal)
-      → IsComplete s.graph s.budget script c.journal
-  rests_complete script legal settled none used =
-      concluded s.graph s.budget script c.journal (done_at c.done) (ordered s.graph graph) legal sound.sent
+  pub rests_complete : IsLegalFor s c.journal → IsSettled s c
+      → ((a : ℕ) → a < length s.graph.nodes → waiting_at s c a ≡ []) → length s.script ≤ length (inputs_in s.graph c.journal)
+      → IsCompleteFor s c.journal
+  rests_complete legal settled none used =
+      concluded s.graph s.budget s.script c.journal (done_at c.done) (ordered s.graph graph) legal sound.sent
       (λ k l. let e : done_at c.done k ≡ length c.journal = settled_done s c graph sound settled k l in omega arith)
       (nothing_waits settled none (length s.graph.nodes) (omega arith)) used
 
-  pub rests_full : (script : List Event) → IsLegal s.graph s.budget script c.journal → IsSettled s c → length c.journal ≡ s.limit
-      → (length (inputs_in s.graph c.journal) < length script) ⊎ ((a : ℕ) × (v : Value) × (slice_get (waiting_at s c a) 0 ≡ Some v))
-      → IsFull s.graph s.budget script s.limit c.journal
-  rests_full script legal settled full left = record {
+  pub rests_full : IsLegalFor s c.journal → IsSettled s c → length c.journal ≡ s.limit
+      → (length (inputs_in s.graph c.journal) < length s.script) ⊎ ((a : ℕ) × (v : Value) × (slice_get (waiting_at s c a) 0 ≡ Some v))
+      → IsFullFor s c.journal
+  rests_full legal settled full left = record {
     legal = legal;
     length_is = full;
     there = λ k p l m. sound.sent k p l (let e : done_at c.done k ≡ length c.journal = settled_done s c graph sound settled k l in omega arith);
     unfinished = unfinished left;
   }
     where
-      unfinished : (length (inputs_in s.graph c.journal) < length script) ⊎ ((a : ℕ) × (v : Value) × (slice_get (waiting_at s c a) 0 ≡ Some v))
-          → IsUnfinished s.graph s.budget script c.journal
+      unfinished : (length (inputs_in s.graph c.journal) < length s.script) ⊎ ((a : ℕ) × (v : Value) × (slice_get (waiting_at s c a) 0 ≡ Some v))
+          → IsUnfinished s.graph s.budget s.script c.journal
       unfinished (inl l) = inl l
       unfinished (inr w) =
           let f = waits_first s graph c w.0 w.1 w.2 in

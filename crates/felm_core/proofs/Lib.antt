@@ -15,3 +15,4 @@ pub mod Ends
 pub mod Stays
 pub mod Room
 pub mod Holds
+pub mod Spares

@@ -7,7 +7,8 @@ use Rattle.felm_term.specs.declared.value.Value.{Value}
 use Rattle.felm_term.specs.declared.event.Event.{Event}
 use Rattle.felm_graph.specs.Nodes.{is_async}
 use Rattle.felm_graph.specs.Graphs.{IsGraph}
-use Rattle.felm_meaning.specs.Journals.{inputs_in, entered, IsLegal, NamesInputs}
+use Rattle.felm_meaning.specs.OfPlans.{IsLegalFor}
+use Rattle.felm_meaning.specs.Journals.{inputs_in, entered, NamesInputs}
 use Rattle.felm_meaning.proofs.Fronts.{changes-later}
 use Rattle.felm_meaning.proofs.Legal.{legal-async, legal-input, async_is_source, input_is_source}
 use Rattle.felm_meaning.specs.PlanValue.{PlanValue}
@@ -21,23 +22,23 @@ use Rattle.felm_core.proofs.Measures.{settled_most}
 use Rattle.felm_core.proofs.Sent.{sent_settled}
 use Rattle.felm_core.proofs.Entered.{next_settled}
 
-module _ (s : PlanValue) (script : List Event) (c : Position) (graph : IsGraph s.graph) (sound : IsSound s c)
-    (legal : IsLegal s.graph s.budget script c.journal) (enough : length script * 2 ^ count_by is_async s.graph.nodes ≤ s.limit) where
-  below : (e : Event) → IsLegal s.graph s.budget script (c.journal ++ e ∷ []) → length c.journal < s.limit
+module _ (s : PlanValue) (c : Position) (graph : IsGraph s.graph) (sound : IsSound s c) (legal : IsLegalFor s c.journal)
+    (enough : length s.script * 2 ^ count_by is_async s.graph.nodes ≤ s.limit) where
+  below : (e : Event) → IsLegalFor s (c.journal ++ e ∷ []) → length c.journal < s.limit
   below e longer =
-      let b : length (c.journal ++ e ∷ []) ≤ length script * 2 ^ count_by is_async s.graph.nodes =
-      legal_bound s.graph s.budget script (c.journal ++ e ∷ []) graph longer in
+      let b : length (c.journal ++ e ∷ []) ≤ length s.script * 2 ^ count_by is_async s.graph.nodes =
+      legal_bound s.graph s.budget s.script (c.journal ++ e ∷ []) graph longer in
       let n : length (c.journal ++ e ∷ []) ≡ length c.journal + 1 = length-append c.journal (e ∷ []) in
       omega arith
 
-  pub place_to_feed : (e : Event) → NamesInputs s.graph.nodes script → slice_get script (length (inputs_in s.graph c.journal)) ≡ Some e → length c.journal < s.limit
+  pub place_to_feed : (e : Event) → NamesInputs s.graph.nodes s.script → slice_get s.script (length (inputs_in s.graph c.journal)) ≡ Some e → length c.journal < s.limit
   place_to_feed e named h =
-      below e (legal-input s.graph s.budget script c.journal e legal (named (length (inputs_in s.graph c.journal)) e h) h)
+      below e (legal-input s.graph s.budget s.script c.journal e legal (named (length (inputs_in s.graph c.journal)) e h) h)
 
   pub place_to_enter : (a : ℕ) (v : Value) → slice_get (waiting_at s c a) 0 ≡ Some v → length c.journal < s.limit
   place_to_enter a v h =
       let w = waits_first s graph c a v h in
-      below (record { source = a; value = v }) (legal-async s.graph s.budget script c.journal (record { source = a; value = v }) w.0 legal w.1
+      below (record { source = a; value = v }) (legal-async s.graph s.budget s.script c.journal (record { source = a; value = v }) w.0 legal w.1
       (changes-later s.graph s.budget c.journal w.0 (done_at c.done w.0) (length c.journal) (entered c.journal a) v
       (done_within s c graph sound w.0 (inner_there s graph a w.0 w.1)) w.2))
 

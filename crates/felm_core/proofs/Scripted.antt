@@ -10,13 +10,14 @@ use Rattle.felm_graph.specs.Graphs.{IsGraph, IsOfType}
 use Rattle.felm_meaning.specs.Nodes.{is_input}
 use Rattle.felm_meaning.specs.Journals.{inputs_in, IsLegal}
 use Rattle.felm_meaning.specs.Types.{EventsFit}
-use Rattle.felm_meaning.specs.Laws.{DefaultsThere}
 use Rattle.felm_meaning.proofs.Rows.{slice_get-append_left, slice_get_last}
 use Rattle.felm_meaning.proofs.Legal.{async_is_source, inputs-more, inputs-other}
 use Rattle.felm_meaning.proofs.Fitting.{legal_fits}
 use Rattle.felm_meaning.specs.PlanValue.{PlanValue}
+use Rattle.felm_meaning.specs.OfPlans.{DefaultsThereFor, IsLegalFor}
 use Rattle.felm_core.specs.Positions.{Position, IsSound}
 use Rattle.felm_core.specs.Moves.{Move, Feed, Enter, Claim, Send, Stop, Reopen, Leads, Runs, IsScripted, FitsNode, fed_in, fed, beginning}
+use Rattle.felm_core.specs.Laws.{ComesTo}
 use Rattle.felm_core.proofs.Events.{at_last}
 use Rattle.felm_core.proofs.Runs.{waits_first, move_sound, run_sound, beginning_sound}
 
@@ -67,12 +68,12 @@ nothing_in : (g : GraphValue) → inputs_in g [] ≡ []
 unfolding inputs_in
 nothing_in g = refl
 
-pub scripted_legal : (s : PlanValue) (script : List Event) (moves : List Move) (d : Position) → IsGraph s.graph → DefaultsThere s.graph s.budget
-    → IsScripted script moves → Runs s (beginning s.graph) moves d → IsLegal s.graph s.budget script d.journal
-scripted_legal s script moves d graph defaults scripted run =
+pub scripted_legal : (s : PlanValue) (moves : List Move) (d : Position) → IsGraph s.graph → DefaultsThereFor s → IsScripted s moves
+    → Runs s (beginning s.graph) moves d → IsLegalFor s d.journal
+scripted_legal s moves d graph defaults scripted run =
     let i : inputs_in s.graph d.journal ≡ fed moves =
     run_feeds s (beginning s.graph) moves d graph run ∙ ap (λ (j : List Event). j ++ fed moves) (nothing_in s.graph) in
-    sound_legal s script d (run_sound s graph (beginning s.graph) moves d (beginning_sound s defaults) run)
+    sound_legal s s.script d (run_sound s graph (beginning s.graph) moves d (beginning_sound s defaults) run)
     (scripted.0, scripted.1 ∙ ap (λ (j : List Event). j ++ scripted.0) (sym i))
 
 -- ---- types
@@ -120,3 +121,11 @@ pub run_fits : (s : PlanValue) (c : Position) (moves : List Move) (d : Position)
 run_fits s c [] d graph sound fit h = subst (λ (x : Position). EventsFit s.graph x.journal) (sym h) fit
 run_fits s c (m ∷ more) d graph sound fit (between, first, rest) =
     run_fits s between more d graph (move_sound s graph c m between sound first) (move_fits s c m between graph sound fit first) rest
+
+pub run_comes : (s : PlanValue) (moves : List Move) (d : Position) → IsGraph s.graph → DefaultsThereFor s → Runs s (beginning s.graph) moves d
+    → ComesTo s moves d
+run_comes s moves d graph defaults run = record {
+  sound = run_sound s graph (beginning s.graph) moves d (beginning_sound s defaults) run;
+  typed = run_fits s (beginning s.graph) moves d graph (beginning_sound s defaults) (λ p e node h q. absurd (none-some e h)) run;
+  legal = λ scripted. scripted_legal s moves d graph defaults scripted run;
+}

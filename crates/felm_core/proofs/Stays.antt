@@ -1,5 +1,5 @@
 -- What lies where at the beginning, and that it depends on the journal and the done counts alone.
-use Rattle.std.proofs.Common.{◌≡◌, ℕ, suc, zero, ◌+◌, Bool, true, false, cond, Option, Some, None, List, [], length, drop, replicate, refl, ap, ◌∙◌, arith}
+use Rattle.std.proofs.Common.{◌≡◌, ℕ, suc, zero, ◌+◌, Bool, true, false, cond, Option, Some, None, List, [], length, drop, replicate, refl, sym, ap, ◌∙◌, arith}
 use Rattle.std.specs.Option.{option_map_or}
 use Rattle.felm_graph.specs.declared.node.Node.{Node}
 use Rattle.felm_graph.specs.Nodes.{is_source}
@@ -10,6 +10,7 @@ use Rattle.felm_meaning.specs.PlanValue.{PlanValue}
 use Rattle.felm_core.specs.Positions.{Position, done_at}
 use Rattle.felm_core.specs.Contents.{edge_at, kept_at, waiting_at, outputs_at, turns_of, settled_at, owed_at}
 use Rattle.felm_core.specs.Moves.{beginning}
+use Rattle.felm_core.specs.Holds.{Edges, Parts, Holds}
 
 zeros : (n k : ℕ) → done_at (replicate n 0) k ≡ 0
 zeros zero k = refl
@@ -82,3 +83,14 @@ module _ (s : PlanValue) where
 
     pub stay_owed : (k : ℕ) → owed_at d k ≡ owed_at c k
     stay_owed k = rw (journal, done) refl
+
+    pub stay_holds : (edges : Edges) (parts : Parts) → Holds s c edges parts → Holds s d edges parts
+    stay_holds edges parts holds = record {
+      edges_are = λ k port a h. holds.edges_are k port a h ∙ sym (stay_edge a k);
+      kept_length = holds.kept_length;
+      kept_are = λ k l. holds.kept_are k l ∙ sym (stay_kept k);
+      waiting_length = holds.waiting_length;
+      waiting_are = λ a l. holds.waiting_are a l ∙ sym (stay_waits a);
+      outputs_are = holds.outputs_are ∙ sym stay_shown;
+      settled_is = holds.settled_is ∙ sym stay_settled;
+    }

@@ -5,28 +5,33 @@ use Rattle.felm_term.specs.declared.value.Value.{Value}
 use Rattle.felm_term.specs.declared.message.Message.{Message}
 use Rattle.felm_graph.specs.declared.node.Node.{Node}
 use Rattle.felm_graph.specs.Nodes.{is_source}
-use Rattle.felm_meaning.specs.Nodes.{inner}
-use Rattle.felm_meaning.specs.Meaning.{val, changes, sends, edge}
-use Rattle.felm_meaning.specs.Journals.{entered}
 use Rattle.felm_meaning.specs.PlanValue.{PlanValue}
+use Rattle.felm_meaning.specs.OfPlans.{val_for, changes_for, sends_for, edge_for}
+use Rattle.felm_meaning.specs.Nodes.{inner}
+use Rattle.felm_meaning.specs.Journals.{entered}
 use Rattle.felm_core.specs.Positions.{Position, done_at}
+
+-- ---- contents
 
 -- the edge from node a into node k: what a has sent and k hasn't taken
 unfoldable pub edge_at : PlanValue → Position → ℕ → ℕ → List Message
-edge_at s c a k = edge s.graph s.budget c.journal a (done_at c.done k) (done_at c.done a)
+edge_at plan position a k = edge_for plan position.journal a (done_at position.done k) (done_at position.done a)
 
 -- the value in the last message of node k, at first its default
 unfoldable pub kept_at : PlanValue → Position → ℕ → Option Value
-kept_at s c k = val s.graph s.budget c.journal k (done_at c.done k)
+kept_at plan position k = val_for plan position.journal k (done_at position.done k)
 
 -- the changes that the inner signal of async a has sent, without those that are events already; none at another node
 unfoldable pub waiting_at : PlanValue → Position → ℕ → List Value
-waiting_at s c a =
-    option_map_or (λ x. drop (entered c.journal a) (changes s.graph s.budget c.journal x (done_at c.done x))) (inner s.graph.nodes a) []
+waiting_at plan position a =
+    option_map_or (λ x. drop (entered position.journal a) (changes_for plan position.journal x (done_at position.done x)))
+    (inner plan.graph.nodes a) []
 
 -- what the shown node has sent
 unfoldable pub outputs_at : PlanValue → Position → List Message
-outputs_at s c = sends s.graph s.budget c.journal s.graph.main (done_at c.done s.graph.main)
+outputs_at plan position = sends_for plan position.journal plan.graph.main (done_at position.done plan.graph.main)
+
+-- ---- counts
 
 -- how many turns were taken by those of the first n nodes that are no sources
 unfoldable pub turns_of : List Node → List ℕ → ℕ → ℕ
@@ -35,11 +40,11 @@ turns_of nodes done (suc n) = turns_of nodes done n + (if is_source nodes n then
 
 -- how many turns were taken
 abbrev pub settled_at : PlanValue → Position → ℕ
-settled_at s c = turns_of s.graph.nodes c.done (length s.graph.nodes)
+settled_at plan position = turns_of plan.graph.nodes position.done (length plan.graph.nodes)
 
 -- how many events node k has sent no message at yet: as much room is kept for what it will send
 abbrev pub owed_at : Position → ℕ → ℕ
-owed_at c k = length c.journal - done_at c.done k
+owed_at position k = length position.journal - done_at position.done k
 
 -- how many of the first n nodes are no sources
 unfoldable pub turning : List Node → ℕ → ℕ

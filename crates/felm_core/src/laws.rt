@@ -1,7 +1,7 @@
 //! Laws of positions, moves and runs. Each function's contract states a law; its body does nothing.
-ghost use Rattle.felm_core.specs.EngineLaws.{EdgesTellTurns, BeginningsHold, SendingHolds, SourcesSend, EventsHold};
-ghost use Rattle.felm_core.specs.Instances.{ArePositions};
-ghost use Rattle.felm_core.specs.Laws.{TurnNodesAreCounted, BeginningsAreSound, MovesStaySound, RunsStaySound, SendingMovesEdges, SendingMovesParts, SendingCounts, EventsMoveEdges, EventsMoveParts, EventsCount, EdgesHoldWhatIsDue, TurnsGiveTheMessages, NeverSticks, SettledRests, TurnsAreCounted, LegalJournalsAreBounded, RunsGrow, RunsHaveWhatTheyAreFed, ScriptedRunsAreLegal, RunsKeepTypes, WhatRestsIsComplete, WhatRestsAtTheLimitIsFull, StopsAreOverBudget, BeginningsAreEmpty, ContentsStay, PlaceIsLeft, MovesGain, ProgressIsBounded};
+ghost use Rattle.felm_core.specs.EngineLaws.{EdgesTellTurns, BeginningsHold, StayingHolds, SendingHolds, SourcesSend, EventsHold, BeginningsKeepRoom, StayingKeepsRoom, SendingFindsRoom, SendingKeepsRoom, EventsKeepRoom};
+ghost use Rattle.felm_core.specs.Instances.{AreWorked};
+ghost use Rattle.felm_core.specs.Laws.{BeginningsAreSound, MovesStaySound, RunsStaySound, BeginningsAreEmpty, ContentsStay, SendingMovesEdges, SendingMovesParts, SendingCounts, EventsMoveEdges, EventsMoveParts, EventsCount, EdgesHoldWhatIsDue, TurnsGiveTheMessages, NeverSticks, SettledRests, TurnsAreCounted, TurnNodesAreCounted, LegalJournalsAreBounded, RunsGrow, RunsHaveWhatTheyAreFed, SoundJournalsAreLegal, ScriptedRunsAreLegal, RunsKeepTypes, RunsComeToSoundPositions, WhatRestsIsComplete, WhatRestsAtTheLimitIsFull, StopsAreOverBudget, PlaceIsLeft, MovesGain, ProgressIsBounded};
 
 /// Where every default is there, a run begins at a sound position.
 pub fn beginnings_are_sound()
@@ -16,6 +16,16 @@ pub fn moves_stay_sound()
 /// So does every run.
 pub fn runs_stay_sound()
     ensures { RunsStaySound }
+{}
+
+/// A run begins with empty edges, waiting lists and outputs.
+pub fn beginnings_are_empty()
+    ensures { BeginningsAreEmpty }
+{}
+
+/// What lies where depends on the journal and the done counts alone.
+pub fn contents_stay()
+    ensures { ContentsStay }
 {}
 
 /// What a sent turn does to the edges.
@@ -73,6 +83,11 @@ pub fn turns_are_counted()
     ensures { TurnsAreCounted }
 {}
 
+/// The nodes that take turns are those that are no sources.
+pub fn turn_nodes_are_counted()
+    ensures { TurnNodesAreCounted }
+{}
+
 /// A legal journal has at most as many events as its script, doubled once for each async.
 pub fn legal_journals_are_bounded()
     ensures { LegalJournalsAreBounded }
@@ -88,6 +103,11 @@ pub fn runs_have_what_they_are_fed()
     ensures { RunsHaveWhatTheyAreFed }
 {}
 
+/// A sound position whose input events are the first ones of the script has a legal journal.
+pub fn sound_journals_are_legal()
+    ensures { SoundJournalsAreLegal }
+{}
+
 /// A run that is fed by a script has a legal journal.
 pub fn scripted_runs_are_legal()
     ensures { ScriptedRunsAreLegal }
@@ -96,6 +116,12 @@ pub fn scripted_runs_are_legal()
 /// The events of a run have their nodes' types.
 pub fn runs_keep_types()
     ensures { RunsKeepTypes }
+{}
+
+/// A run from the beginning comes to a sound position with events of their nodes' types, and with a legal journal where it is
+/// fed by the script.
+pub fn runs_come_to_sound_positions()
+    ensures { RunsComeToSoundPositions }
 {}
 
 /// Where all is settled, nothing waits and the script is used, the journal is complete.
@@ -111,16 +137,6 @@ pub fn what_rests_at_the_limit_is_full()
 /// A stop is at a call over budget.
 pub fn stops_are_over_budget()
     ensures { StopsAreOverBudget }
-{}
-
-/// A run begins with empty edges, waiting lists and outputs.
-pub fn beginnings_are_empty()
-    ensures { BeginningsAreEmpty }
-{}
-
-/// What lies where depends on the journal and the done counts alone.
-pub fn contents_stay()
-    ensures { ContentsStay }
 {}
 
 /// Below a limit that no legal journal exceeds, an event that can come in finds place.
@@ -148,6 +164,11 @@ pub fn beginnings_hold()
     ensures { BeginningsHold }
 {}
 
+/// What parts hold depends on the journal and the done counts alone.
+pub fn staying_holds()
+    ensures { StayingHolds }
+{}
+
 /// Parts that a sent turn changed hold what lies after it.
 pub fn sending_holds()
     ensures { SendingHolds }
@@ -163,12 +184,32 @@ pub fn events_hold()
     ensures { EventsHold }
 {}
 
-/// The nodes that take turns are those that are no sources.
-pub fn turn_nodes_are_counted()
-    ensures { TurnNodesAreCounted }
+/// A run begins with nothing owed.
+pub fn beginnings_keep_room()
+    ensures { BeginningsKeepRoom }
 {}
 
-/// What lies where at small positions is what was worked out by hand.
+/// The room that is wanted depends on the journal and the done counts alone.
+pub fn staying_keeps_room()
+    ensures { StayingKeepsRoom }
+{}
+
+/// A message that is sent finds room wherever it is put.
+pub fn sending_finds_room()
+    ensures { SendingFindsRoom }
+{}
+
+/// After a sent turn the room is enough, if the message took one place in each list that it was put into.
+pub fn sending_keeps_room()
+    ensures { SendingKeepsRoom }
+{}
+
+/// After an event the room is enough, if it was enough for one message more of each node that takes turns.
+pub fn events_keep_room()
+    ensures { EventsKeepRoom }
+{}
+
+/// The positions of small runs, and what lies there, are those that were worked out by hand.
 pub fn positions_worked_by_hand()
-    ensures { ArePositions }
+    ensures { AreWorked }
 {}

@@ -8,4 +8,4 @@ use Rattle.felm_core.proofs.laws.positions_worked_by_hand.Goals as goal
 
 pub returns : goal.returns
 unfolding int_wrap call_value step defaults_to message_of row_to row msg val changes sends entered edge_at kept_at waiting_at outputs_at turns_of
-returns c = (refl, refl, refl, refl, refl, refl, refl, refl, refl, refl, refl, refl, refl, refl, refl)
+returns c = (refl, refl, refl)
