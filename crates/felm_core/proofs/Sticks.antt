@@ -7,13 +7,13 @@ use Rattle.felm_graph.specs.declared.node.Node.{Node}
 use Rattle.felm_graph.specs.Nodes.{is_source}
 use Rattle.felm_graph.specs.Graphs.{IsGraph}
 use Rattle.felm_meaning.specs.Nodes.{inner}
-use Rattle.felm_meaning.specs.Meaning.{changes, IsThere, msg}
+use Rattle.felm_meaning.specs.Meaning.{changes, sends, IsThere, msg}
 use Rattle.felm_meaning.specs.Journals.{entered, waiting, AllThere}
 use Rattle.felm_meaning.proofs.Graphs.{ordered}
 use Rattle.felm_meaning.proofs.Rows.{there_within}
 use Rattle.felm_meaning.specs.PlanValue.{PlanValue}
 use Rattle.felm_core.specs.Positions.{Position, done_at, is_out, Reads, HasRoom, HasTurn, IsSound, IsReady, IsSettled}
-use Rattle.felm_core.specs.Contents.{waiting_at}
+use Rattle.felm_core.specs.Contents.{waiting_at, outputs_at}
 use Rattle.felm_core.proofs.Wiring.{reader_within, reads_some}
 use Rattle.felm_core.proofs.Runs.{inner_there, slice_get-drop}
 
@@ -135,6 +135,11 @@ module _ (s : PlanValue) (c : Position) (graph : IsGraph s.graph) (sound : IsSou
       go : (t : Bool) → is_source s.graph.nodes k ≡ t → done_at c.done k ≡ length c.journal
       go true h = sound.sources k h
       go false h = settled k l h
+
+  -- and the shown node has sent all its messages
+  pub settled_shown : IsSettled s c → outputs_at s c ≡ sends s.graph s.budget c.journal s.graph.main (length c.journal)
+  unfolding outputs_at
+  settled_shown settled = ap (sends s.graph s.budget c.journal s.graph.main) (settled_done settled s.graph.main graph.main_there)
 
   -- what waits first there is what waits after the journal
   pub settled_waits : IsSettled s c → (a : ℕ) → slice_get (waiting_at s c a) 0 ≡ waiting s.graph s.budget c.journal a

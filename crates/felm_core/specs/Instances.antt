@@ -14,9 +14,9 @@ use Rattle.felm_term.specs.declared.event.Event.{Event}
 use Rattle.felm_graph.specs.Nodes.{arguments_of}
 use Rattle.felm_meaning.specs.PlanValue.{PlanValue}
 use Rattle.felm_meaning.specs.Instances.{number, event, x, input_of, lift_of, late_sum, guarded}
-use Rattle.felm_core.specs.Positions.{Position}
+use Rattle.felm_core.specs.Positions.{Position, IsReady, IsSettled}
 use Rattle.felm_core.specs.Contents.{edge_at, kept_at, waiting_at, outputs_at, settled_at}
-use Rattle.felm_core.specs.Moves.{Move, Feed, Enter, Claim, Send, Stop, Reopen, with_next, claimed, sent, stopped, reopened, beginning}
+use Rattle.felm_core.specs.Moves.{Move, Feed, Enter, Claim, Send, Stop, Reopen, with_next, claimed, sent, stopped, reopened, HasPlace, beginning}
 
 -- ---- rows
 
@@ -147,6 +147,18 @@ chain_rows = record {
       ∷ row (Send 2) (at x_4_6 (2 ∷ 2 ∷ 2 ∷ []) idle) ([] ∷ [] ∷ []) (6 ∷ 7 ∷ 9 ∷ []) quiet (change 7 ∷ change 9 ∷ []) 4
       ∷ [];
 }
+
+-- what may be done at those positions: node 1 takes turns while node 2 has room, and node 2 as soon as it is fed; x comes in while node 1 has room
+pub record ChainAllows : Type 0 where
+  pub fed : IsReady chain (at x_4 (1 ∷ 0 ∷ 0 ∷ []) idle) 1
+  pub empty : ¬ IsReady chain (at x_4 (1 ∷ 0 ∷ 0 ∷ []) idle) 2
+  pub no_place : ¬ HasPlace chain (at x_4 (1 ∷ 0 ∷ 0 ∷ []) idle)
+  pub out : ¬ IsReady chain (at x_4 (1 ∷ 0 ∷ 0 ∷ []) out_1) 1
+  pub place : HasPlace chain (at x_4 (1 ∷ 1 ∷ 0 ∷ []) idle)
+  pub full : ¬ IsReady chain (at x_4_6 (2 ∷ 1 ∷ 0 ∷ []) idle) 1
+  pub fed_next : IsReady chain (at x_4_6 (2 ∷ 1 ∷ 0 ∷ []) idle) 2
+  pub unsettled : ¬ IsSettled chain (at x_4_6 (2 ∷ 1 ∷ 1 ∷ []) idle)
+  pub settled : IsSettled chain (at x_4_6 (2 ∷ 2 ∷ 2 ∷ []) idle)
 
 -- ---- an async, whose inner signal's first change enters after the second event of x
 

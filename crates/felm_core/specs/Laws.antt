@@ -9,7 +9,7 @@ use Rattle.felm_graph.specs.Nodes.{is_source_kind, is_source, is_async, argument
 use Rattle.felm_graph.specs.declared.node.Node.{Node}
 use Rattle.felm_meaning.specs.declared.job.Job.{Job}
 use Rattle.felm_meaning.specs.PlanValue.{PlanValue}
-use Rattle.felm_meaning.specs.OfPlans.{DefaultsThereFor, msg_for, val_for, IsLegalFor, IsCompleteFor, waiting_for, IsOverFor, IsFullFor}
+use Rattle.felm_meaning.specs.OfPlans.{DefaultsThereFor, msg_for, val_for, sends_for, IsLegalFor, IsCompleteFor, waiting_for, IsOverFor, IsFullFor}
 use Rattle.felm_meaning.specs.Nodes.{inner, job_of}
 use Rattle.felm_meaning.specs.Step.{step}
 use Rattle.felm_meaning.specs.Meaning.{all_of, source_message, value_at, changed_in}
@@ -192,6 +192,7 @@ pub record Rests (plan : PlanValue) (position : Position) : Type 0 where
   pub none_ready : (k : ℕ) → ¬ IsReady plan position k
   pub room : 1 ≤ plan.capacity → (k : ℕ) → is_source plan.graph.nodes k ≡ true → HasRoom plan position.done k
   pub done : (k : ℕ) → k < length plan.graph.nodes → done_at position.done k ≡ length position.journal
+  pub shown : outputs_at plan position ≡ sends_for plan position.journal plan.graph.main (length position.journal)
   -- what waits first is what waits after the journal
   pub waits : (a : ℕ) → slice_get (waiting_at plan position a) 0 ≡ waiting_for plan position.journal a
   pub turns : settled_at plan position ≡ length position.journal * turning plan.graph.nodes (length plan.graph.nodes)

@@ -1,6 +1,6 @@
 //! Laws of positions, moves and runs. Each function's contract states a law; its body does nothing.
 ghost use Rattle.felm_core.specs.EngineLaws.{EdgesTellTurns, BeginningsHold, StayingHolds, SendingHolds, SourcesSend, EventsHold, BeginningsKeepRoom, StayingKeepsRoom, SendingFindsRoom, SendingKeepsRoom, EventsKeepRoom};
-ghost use Rattle.felm_core.specs.Instances.{AreWorked};
+ghost use Rattle.felm_core.specs.Instances.{AreWorked, ChainAllows};
 ghost use Rattle.felm_core.specs.Laws.{BeginningsAreSound, MovesStaySound, RunsStaySound, BeginningsAreEmpty, ContentsStay, SendingMovesEdges, SendingMovesParts, SendingCounts, EventsMoveEdges, EventsMoveParts, EventsCount, EdgesHoldWhatIsDue, TurnsGiveTheMessages, NeverSticks, SettledRests, TurnsAreCounted, TurnNodesAreCounted, LegalJournalsAreBounded, RunsGrow, RunsHaveWhatTheyAreFed, SoundJournalsAreLegal, ScriptedRunsAreLegal, RunsKeepTypes, RunsComeToSoundPositions, WhatRestsIsComplete, WhatRestsAtTheLimitIsFull, StopsAreOverBudget, PlaceIsLeft, MovesGain, ProgressIsBounded};
 
 /// Where every default is there, a run begins at a sound position.
@@ -209,7 +209,8 @@ pub fn events_keep_room()
     ensures { EventsKeepRoom }
 {}
 
-/// The positions of small runs, and what lies there, are those that were worked out by hand.
+/// The positions of small runs, what lies there and what may be done there are as they were worked out by hand.
 pub fn positions_worked_by_hand()
-    ensures { AreWorked }
+    ensures rows { AreWorked }
+    ensures allowed { ChainAllows }
 {}
