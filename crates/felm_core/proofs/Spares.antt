@@ -11,7 +11,7 @@ use Rattle.felm_core.specs.Positions.{Position}
 use Rattle.felm_core.specs.Contents.{owed_at}
 use Rattle.felm_core.specs.Moves.{beginning, with_next, sent}
 use Rattle.felm_core.specs.Laws.{Sends, ComesIn}
-use Rattle.felm_core.specs.Holds.{Spares, spare_of, KeepsRoom, SpendsFrom, KeepsRoomForNext}
+use Rattle.felm_core.specs.Holds.{Spares, KeepsRoom, SpendsFrom, KeepsRoomForNext}
 use Rattle.felm_core.proofs.Runs.{inner_there}
 use Rattle.felm_core.proofs.Stays.{begin_owed, stay_owed}
 use Rattle.felm_core.proofs.Sent.{sent_owed, sent_owed-other}
@@ -28,7 +28,7 @@ stay_room s c d spares journal done room = record {
 
 -- a turn that is out owes a message
 pub sent_finds_room : (s : PlanValue) (c : Position) (k : ℕ) (m : Message) (spares : Spares) → Sends s c k m → KeepsRoom s c spares
-    → ((a : ℕ) → inner s.graph.nodes a ≡ Some k → 0 < spare_of spares a) × (s.graph.main ≡ k → 0 < spares.outputs)
+    → ((a : ℕ) → inner s.graph.nodes a ≡ Some k → 0 < spares.waiting a) × (s.graph.main ≡ k → 0 < spares.outputs)
 sent_finds_room s c k m spares sends room = (λ a h. omega (arith, owed, room.waiting a k h), λ h. shown h)
   where
     owed : owed_at c k ≡ suc (owed_at (sent c k) k)
@@ -50,11 +50,11 @@ sent_room s c k m before after sends room spends = record {
     owed_other : (x : ℕ) → (k ≡ x → ⊥) → owed_at (sent c k) x ≡ owed_at c x
     owed_other = sent_owed-other s c k m sends.graph sends.sound sends.out sends.message
 
-    waiting : (a x : ℕ) → inner s.graph.nodes a ≡ Some x → (k ≡ x) ⊎ (k ≡ x → ⊥) → owed_at (sent c k) x ≤ spare_of after a
+    waiting : (a x : ℕ) → inner s.graph.nodes a ≡ Some x → (k ≡ x) ⊎ (k ≡ x → ⊥) → owed_at (sent c k) x ≤ after.waiting a
     waiting a x h (inl e) =
         let i : inner s.graph.nodes a ≡ Some k = h ∙ ap (λ (y : ℕ). Some y) (sym e) in
-        let l : owed_at (sent c k) k ≤ spare_of after a = omega (arith, owed, room.waiting a k i, spends.waiting a i) in
-        subst (λ (y : ℕ). owed_at (sent c k) y ≤ spare_of after a) e l
+        let l : owed_at (sent c k) k ≤ after.waiting a = omega (arith, owed, room.waiting a k i, spends.waiting a i) in
+        subst (λ (y : ℕ). owed_at (sent c k) y ≤ after.waiting a) e l
     waiting a x h (inr n) =
         omega (arith, owed_other x n, room.waiting a x h, spends.waiting_other a (λ q. n (same_Some k x (sym q ∙ h))))
 
@@ -79,7 +79,7 @@ event_room s c e spares comes room = record {
     none = next_owed-source s c e comes.graph comes.sound comes.source
 
     waiting : (a x : ℕ) → inner s.graph.nodes a ≡ Some x → (t : Bool) → is_source s.graph.nodes x ≡ t
-        → owed_at (with_next s c e) x ≤ spare_of spares a
+        → owed_at (with_next s c e) x ≤ spares.waiting a
     waiting a x h true q = omega (arith, none x q)
     waiting a x h false q = omega (arith, more x (inner_there s comes.graph a x h) q, room.waiting a x h q)
 

@@ -13,7 +13,7 @@ use Rattle.felm_core.specs.Positions.{Position, done_at, Reads, HasRoom, IsSound
 use Rattle.felm_core.specs.Contents.{edge_at, kept_at}
 use Rattle.felm_core.specs.Moves.{beginning, with_next, sent}
 use Rattle.felm_core.specs.Laws.{Sends, ComesIn, source_sends}
-use Rattle.felm_core.specs.Holds.{Edges, Parts, Holds, SentFrom, EventFrom, Spares, spare_of, KeepsRoom, SpendsFrom, KeepsRoomForNext}
+use Rattle.felm_core.specs.Holds.{Edges, Parts, Holds, SentFrom, EventFrom, Spares, KeepsRoom, SpendsFrom, KeepsRoomForNext}
 
 -- ---- edges
 
@@ -84,7 +84,7 @@ abbrev pub SendingFindsRoom : Type 0
 SendingFindsRoom =
     (plan : PlanValue) (position : Position) (k : ℕ) (m : Message) (spares : Spares) → Sends plan position k m
     → KeepsRoom plan position spares
-    → ((a : ℕ) → inner plan.graph.nodes a ≡ Some k → 0 < spare_of spares a) × (plan.graph.main ≡ k → 0 < spares.outputs)
+    → ((a : ℕ) → inner plan.graph.nodes a ≡ Some k → 0 < spares.waiting a) × (plan.graph.main ≡ k → 0 < spares.outputs)
 
 -- and the room that it leaves is enough
 abbrev pub SendingKeepsRoom : Type 0

@@ -67,29 +67,25 @@ pub record EventFrom (plan : PlanValue) (e : Event) (message : ℕ → Message) 
 
 -- ---- spare room
 
--- how many more items the waiting list of each node takes without asking for memory, and how many the outputs take
+-- how many more items the waiting list of a node takes without asking for memory, and how many the outputs take
 pub record Spares : Type 0 where
-  pub waiting : List ℕ
+  pub waiting : ℕ → ℕ
   pub outputs : ℕ
-
--- the same of one node's waiting list
-abbrev pub spare_of : Spares → ℕ → ℕ
-spare_of spares a = slice_index_or spares.waiting a 0
 
 -- there is room for all that is owed: in an async's waiting list for what its inner signal owes, in the outputs for what the shown node owes
 pub record KeepsRoom (plan : PlanValue) (position : Position) (spares : Spares) : Type 0 where
-  pub waiting : (a x : ℕ) → inner plan.graph.nodes a ≡ Some x → owed_at position x ≤ spare_of spares a
+  pub waiting : (a x : ℕ) → inner plan.graph.nodes a ≡ Some x → owed_at position x ≤ spares.waiting a
   pub outputs : owed_at position plan.graph.main ≤ spares.outputs
 
 -- the room that the message of node k takes: at most one place in a waiting list over k, and in the outputs where k is shown
 pub record SpendsFrom (plan : PlanValue) (k : ℕ) (before after : Spares) : Type 0 where
-  pub waiting : (a : ℕ) → inner plan.graph.nodes a ≡ Some k → spare_of before a ≤ suc (spare_of after a)
-  pub waiting_other : (a : ℕ) → inner plan.graph.nodes a ≢ Some k → spare_of before a ≤ spare_of after a
+  pub waiting : (a : ℕ) → inner plan.graph.nodes a ≡ Some k → before.waiting a ≤ suc (after.waiting a)
+  pub waiting_other : (a : ℕ) → inner plan.graph.nodes a ≢ Some k → before.waiting a ≤ after.waiting a
   pub outputs : plan.graph.main ≡ k → before.outputs ≤ suc after.outputs
   pub outputs_other : plan.graph.main ≢ k → before.outputs ≤ after.outputs
 
 -- there is room for all that is owed and for what a next event adds to it: one message of each node that takes turns
 pub record KeepsRoomForNext (plan : PlanValue) (position : Position) (spares : Spares) : Type 0 where
   pub waiting : (a x : ℕ) → inner plan.graph.nodes a ≡ Some x → is_source plan.graph.nodes x ≡ false
-      → owed_at position x < spare_of spares a
+      → owed_at position x < spares.waiting a
   pub outputs : is_source plan.graph.nodes plan.graph.main ≡ false → owed_at position plan.graph.main < spares.outputs
