@@ -51,8 +51,10 @@ pub record SentFrom (plan : PlanValue) (k : ℕ) (m : Message) (old : Edges) (be
   pub settled : after.settled ≡ suc before.settled
 
 -- what they are after an event, the message of each source being given
-pub record EventFrom (plan : PlanValue) (e : Event) (message : ℕ → Message) (old : Edges) (before : Parts) (new : Edges) (after : Parts) : Type 0 where
-  pub put : (k r port : ℕ) → Reads plan.graph.nodes r port k → is_source plan.graph.nodes k ≡ true → new r port ≡ old r port ++ message k ∷ []
+pub record EventFrom (plan : PlanValue) (e : Event) (message : ℕ → Message) (old : Edges) (before : Parts) (new : Edges) (after : Parts)
+    : Type 0 where
+  pub put : (k r port : ℕ) → Reads plan.graph.nodes r port k → is_source plan.graph.nodes k ≡ true
+      → new r port ≡ old r port ++ message k ∷ []
   pub other : (k r port : ℕ) → Reads plan.graph.nodes r port k → is_source plan.graph.nodes k ≡ false → new r port ≡ old r port
   pub kept_length : length after.kept ≡ length before.kept
   pub kept : (k : ℕ) → is_source plan.graph.nodes k ≡ true → slice_get after.kept k ≡ Some (value_of (message k))

@@ -14,7 +14,7 @@ use Rattle.felm_term.specs.declared.event.Event.{Event}
 use Rattle.felm_graph.specs.Nodes.{arguments_of}
 use Rattle.felm_meaning.specs.PlanValue.{PlanValue}
 use Rattle.felm_meaning.specs.Instances.{number, event, x, input_of, lift_of, late_sum, guarded}
-use Rattle.felm_core.specs.Positions.{Position, IsReady, IsSettled}
+use Rattle.felm_core.specs.Positions.{StopValue, Position, IsReady, IsSettled}
 use Rattle.felm_core.specs.Contents.{edge_at, kept_at, waiting_at, outputs_at, settled_at}
 use Rattle.felm_core.specs.Moves.{Move, Feed, Enter, Claim, Send, Stop, Reopen, with_next, claimed, sent, stopped, reopened, HasPlace, beginning}
 
@@ -71,12 +71,25 @@ IsWorked table = rows_of table.plan table.nodes (beginning table.plan.graph) (ma
 
 -- ---- words for rows
 
+abbrev pub one : {A : Type 0} → A → List A
+one a = a ∷ []
+
+abbrev pub two : {A : Type 0} → A → A → List A
+two a b = a ∷ b ∷ []
+
+abbrev pub three : {A : Type 0} → A → A → A → List A
+three a b c = a ∷ b ∷ c ∷ []
+
+abbrev pub four : {A : Type 0} → A → A → A → A → List A
+four a b c d = a ∷ b ∷ c ∷ d ∷ []
+
 abbrev pub change : ℕ → Message
 change n = Change (number n)
 
 abbrev pub same : ℕ → Message
 same n = NoChange (number n)
 
+-- a position at which nothing has stopped
 abbrev pub at : List Event → List ℕ → List Bool → Position
 at journal done out = record { journal = journal; done = done; out = out; stop = None }
 
@@ -92,113 +105,113 @@ row move position edges kept waits outputs settled =
       settled = settled;
     }
 
--- ---- two lifts in a row, by edges that hold one message: the second takes its first turn while the first one's second message is due
+-- ---- two lifts in a row, by edges that hold one message: the second one is at the first event while the second event has come in
 
 -- \n:int. n + m
 abbrev pub plus : ℕ → Value
 plus m = value.Fun (Lam Int (Bin op.Add (Var 0) (term.Int (pos m))))
 
 abbrev pub x_4 : List Event
-x_4 = event 0 (number 4) ∷ []
+x_4 = one (event 0 (number 4))
 
 abbrev pub x_4_6 : List Event
-x_4_6 = event 0 (number 4) ∷ event 0 (number 6) ∷ []
+x_4_6 = two (event 0 (number 4)) (event 0 (number 6))
 
 -- lift1 (\n:int. n + 2) (lift1 (\n:int. n + 1) x)
 abbrev pub chain : PlanValue
 chain = record {
-  graph = record { nodes = input_of 0 Int ∷ lift_of (plus 1) (0 ∷ []) ∷ lift_of (plus 2) (1 ∷ []) ∷ []; inputs = x ∷ []; main = 2 };
+  graph = record { nodes = three (input_of 0 Int) (lift_of (plus 1) (one 0)) (lift_of (plus 2) (one 1)); inputs = one x; main = 2 };
   script = x_4_6;
   budget = 10;
   limit = 10;
   capacity = 1;
 }
 
--- no turn is out, that of node 1 is, that of node 2 is
+-- no turn is out, or that of node 1, or that of node 2
 abbrev pub idle : List Bool
-idle = false ∷ false ∷ false ∷ []
+idle = three false false false
 
 abbrev pub out_1 : List Bool
-out_1 = false ∷ true ∷ false ∷ []
+out_1 = three false true false
 
 abbrev pub out_2 : List Bool
-out_2 = false ∷ false ∷ true ∷ []
+out_2 = three false false true
 
--- no async, so nothing waits
-abbrev pub quiet : List (List Value)
-quiet = [] ∷ [] ∷ [] ∷ []
+-- by the edges into nodes 1 and 2
+abbrev pub chain_row : Move → Position → List Message → List Message → List ℕ → List Message → ℕ → Row
+chain_row move position into_1 into_2 kept outputs settled = row move position (two into_1 into_2) kept (three [] [] []) outputs settled
 
 abbrev pub chain_rows : Table
 chain_rows = record {
   plan = chain;
-  nodes = 0 ∷ 1 ∷ 2 ∷ [];
+  nodes = three 0 1 2;
   rows =
-      row (Feed 0 (number 4)) (at x_4 (1 ∷ 0 ∷ 0 ∷ []) idle) ((change 4 ∷ []) ∷ [] ∷ []) (4 ∷ 1 ∷ 3 ∷ []) quiet [] 0
-      ∷ row (Claim 1) (at x_4 (1 ∷ 0 ∷ 0 ∷ []) out_1) ((change 4 ∷ []) ∷ [] ∷ []) (4 ∷ 1 ∷ 3 ∷ []) quiet [] 0
-      ∷ row (Reopen 1) (at x_4 (1 ∷ 0 ∷ 0 ∷ []) idle) ((change 4 ∷ []) ∷ [] ∷ []) (4 ∷ 1 ∷ 3 ∷ []) quiet [] 0
-      ∷ row (Claim 1) (at x_4 (1 ∷ 0 ∷ 0 ∷ []) out_1) ((change 4 ∷ []) ∷ [] ∷ []) (4 ∷ 1 ∷ 3 ∷ []) quiet [] 0
-      ∷ row (Send 1) (at x_4 (1 ∷ 1 ∷ 0 ∷ []) idle) ([] ∷ (change 5 ∷ []) ∷ []) (4 ∷ 5 ∷ 3 ∷ []) quiet [] 1
-      ∷ row (Feed 0 (number 6)) (at x_4_6 (2 ∷ 1 ∷ 0 ∷ []) idle) ((change 6 ∷ []) ∷ (change 5 ∷ []) ∷ []) (6 ∷ 5 ∷ 3 ∷ []) quiet [] 1
-      ∷ row (Claim 2) (at x_4_6 (2 ∷ 1 ∷ 0 ∷ []) out_2) ((change 6 ∷ []) ∷ (change 5 ∷ []) ∷ []) (6 ∷ 5 ∷ 3 ∷ []) quiet [] 1
-      ∷ row (Send 2) (at x_4_6 (2 ∷ 1 ∷ 1 ∷ []) idle) ((change 6 ∷ []) ∷ [] ∷ []) (6 ∷ 5 ∷ 7 ∷ []) quiet (change 7 ∷ []) 2
-      ∷ row (Claim 1) (at x_4_6 (2 ∷ 1 ∷ 1 ∷ []) out_1) ((change 6 ∷ []) ∷ [] ∷ []) (6 ∷ 5 ∷ 7 ∷ []) quiet (change 7 ∷ []) 2
-      ∷ row (Send 1) (at x_4_6 (2 ∷ 2 ∷ 1 ∷ []) idle) ([] ∷ (change 7 ∷ []) ∷ []) (6 ∷ 7 ∷ 7 ∷ []) quiet (change 7 ∷ []) 3
-      ∷ row (Claim 2) (at x_4_6 (2 ∷ 2 ∷ 1 ∷ []) out_2) ([] ∷ (change 7 ∷ []) ∷ []) (6 ∷ 7 ∷ 7 ∷ []) quiet (change 7 ∷ []) 3
-      ∷ row (Send 2) (at x_4_6 (2 ∷ 2 ∷ 2 ∷ []) idle) ([] ∷ [] ∷ []) (6 ∷ 7 ∷ 9 ∷ []) quiet (change 7 ∷ change 9 ∷ []) 4
+      chain_row (Feed 0 (number 4)) (at x_4 (three 1 0 0) idle) (one (change 4)) [] (three 4 1 3) [] 0
+      ∷ chain_row (Claim 1) (at x_4 (three 1 0 0) out_1) (one (change 4)) [] (three 4 1 3) [] 0
+      ∷ chain_row (Reopen 1) (at x_4 (three 1 0 0) idle) (one (change 4)) [] (three 4 1 3) [] 0
+      ∷ chain_row (Claim 1) (at x_4 (three 1 0 0) out_1) (one (change 4)) [] (three 4 1 3) [] 0
+      ∷ chain_row (Send 1) (at x_4 (three 1 1 0) idle) [] (one (change 5)) (three 4 5 3) [] 1
+      ∷ chain_row (Feed 0 (number 6)) (at x_4_6 (three 2 1 0) idle) (one (change 6)) (one (change 5)) (three 6 5 3) [] 1
+      ∷ chain_row (Claim 2) (at x_4_6 (three 2 1 0) out_2) (one (change 6)) (one (change 5)) (three 6 5 3) [] 1
+      ∷ chain_row (Send 2) (at x_4_6 (three 2 1 1) idle) (one (change 6)) [] (three 6 5 7) (one (change 7)) 2
+      ∷ chain_row (Claim 1) (at x_4_6 (three 2 1 1) out_1) (one (change 6)) [] (three 6 5 7) (one (change 7)) 2
+      ∷ chain_row (Send 1) (at x_4_6 (three 2 2 1) idle) [] (one (change 7)) (three 6 7 7) (one (change 7)) 3
+      ∷ chain_row (Claim 2) (at x_4_6 (three 2 2 1) out_2) [] (one (change 7)) (three 6 7 7) (one (change 7)) 3
+      ∷ chain_row (Send 2) (at x_4_6 (three 2 2 2) idle) [] [] (three 6 7 9) (two (change 7) (change 9)) 4
       ∷ [];
 }
 
 -- what may be done at those positions: node 1 takes turns while node 2 has room, and node 2 as soon as it is fed; x comes in while node 1 has room
 pub record ChainAllows : Type 0 where
-  pub fed : IsReady chain (at x_4 (1 ∷ 0 ∷ 0 ∷ []) idle) 1
-  pub empty : ¬ IsReady chain (at x_4 (1 ∷ 0 ∷ 0 ∷ []) idle) 2
-  pub no_place : ¬ HasPlace chain (at x_4 (1 ∷ 0 ∷ 0 ∷ []) idle)
-  pub out : ¬ IsReady chain (at x_4 (1 ∷ 0 ∷ 0 ∷ []) out_1) 1
-  pub place : HasPlace chain (at x_4 (1 ∷ 1 ∷ 0 ∷ []) idle)
-  pub full : ¬ IsReady chain (at x_4_6 (2 ∷ 1 ∷ 0 ∷ []) idle) 1
-  pub fed_next : IsReady chain (at x_4_6 (2 ∷ 1 ∷ 0 ∷ []) idle) 2
-  pub unsettled : ¬ IsSettled chain (at x_4_6 (2 ∷ 1 ∷ 1 ∷ []) idle)
-  pub settled : IsSettled chain (at x_4_6 (2 ∷ 2 ∷ 2 ∷ []) idle)
+  pub fed : IsReady chain (at x_4 (three 1 0 0) idle) 1
+  pub empty : ¬ IsReady chain (at x_4 (three 1 0 0) idle) 2
+  pub no_place : ¬ HasPlace chain (at x_4 (three 1 0 0) idle)
+  pub out : ¬ IsReady chain (at x_4 (three 1 0 0) out_1) 1
+  pub place : HasPlace chain (at x_4 (three 1 1 0) idle)
+  pub full : ¬ IsReady chain (at x_4_6 (three 2 1 0) idle) 1
+  pub fed_next : IsReady chain (at x_4_6 (three 2 1 0) idle) 2
+  pub unsettled : ¬ IsSettled chain (at x_4_6 (three 2 1 1) idle)
+  pub settled : IsSettled chain (at x_4_6 (three 2 2 2) idle)
 
 -- ---- an async, whose inner signal's first change enters after the second event of x
 
 abbrev pub x_1 : List Event
-x_1 = event 0 (number 1) ∷ []
+x_1 = one (event 0 (number 1))
 
 abbrev pub x_1_2 : List Event
-x_1_2 = event 0 (number 1) ∷ event 0 (number 2) ∷ []
+x_1_2 = two (event 0 (number 1)) (event 0 (number 2))
 
 -- lift2 add x (async (lift1 times_ten x)): node 0 is x, 1 the product, 2 the async, 3 the sum
 abbrev pub late : PlanValue
 late = record { graph = late_sum; script = x_1_2; budget = 10; limit = 9; capacity = 2 }
 
 abbrev pub all_in : List Bool
-all_in = false ∷ false ∷ false ∷ false ∷ []
+all_in = four false false false false
 
--- so many values wait at the async
-abbrev pub waits : List Value → List (List Value)
-waits values = [] ∷ [] ∷ values ∷ [] ∷ []
+-- by the edges from x into the product, from x into the sum and from the async into the sum, and by what waits at the async
+abbrev pub late_row : Move → Position → List Message → List Message → List Message → List ℕ → List Value → List Message → ℕ → Row
+late_row move position product sum_x sum_async kept waiting outputs settled =
+    row move position (three product sum_x sum_async) kept (four [] [] waiting []) outputs settled
 
 abbrev pub late_rows : Table
 late_rows = record {
   plan = late;
-  nodes = 0 ∷ 1 ∷ 2 ∷ 3 ∷ [];
+  nodes = four 0 1 2 3;
   rows =
-      row (Feed 0 (number 1)) (at x_1 (1 ∷ 0 ∷ 1 ∷ 0 ∷ []) all_in) ((change 1 ∷ []) ∷ (change 1 ∷ []) ∷ (same 0 ∷ []) ∷ [])
-      (1 ∷ 0 ∷ 0 ∷ 0 ∷ []) (waits []) [] 0
-      ∷ row (Claim 1) (at x_1 (1 ∷ 0 ∷ 1 ∷ 0 ∷ []) (false ∷ true ∷ false ∷ false ∷ []))
-      ((change 1 ∷ []) ∷ (change 1 ∷ []) ∷ (same 0 ∷ []) ∷ []) (1 ∷ 0 ∷ 0 ∷ 0 ∷ []) (waits []) [] 0
-      ∷ row (Send 1) (at x_1 (1 ∷ 1 ∷ 1 ∷ 0 ∷ []) all_in) ([] ∷ (change 1 ∷ []) ∷ (same 0 ∷ []) ∷ [])
-      (1 ∷ 10 ∷ 0 ∷ 0 ∷ []) (waits (number 10 ∷ [])) [] 1
-      ∷ row (Feed 0 (number 2)) (at x_1_2 (2 ∷ 1 ∷ 2 ∷ 0 ∷ []) all_in)
-      ((change 2 ∷ []) ∷ (change 1 ∷ change 2 ∷ []) ∷ (same 0 ∷ same 0 ∷ []) ∷ []) (2 ∷ 10 ∷ 0 ∷ 0 ∷ []) (waits (number 10 ∷ [])) [] 1
-      ∷ row (Claim 3) (at x_1_2 (2 ∷ 1 ∷ 2 ∷ 0 ∷ []) (false ∷ false ∷ false ∷ true ∷ []))
-      ((change 2 ∷ []) ∷ (change 1 ∷ change 2 ∷ []) ∷ (same 0 ∷ same 0 ∷ []) ∷ []) (2 ∷ 10 ∷ 0 ∷ 0 ∷ []) (waits (number 10 ∷ [])) [] 1
-      ∷ row (Send 3) (at x_1_2 (2 ∷ 1 ∷ 2 ∷ 1 ∷ []) all_in) ((change 2 ∷ []) ∷ (change 2 ∷ []) ∷ (same 0 ∷ []) ∷ [])
-      (2 ∷ 10 ∷ 0 ∷ 1 ∷ []) (waits (number 10 ∷ [])) (change 1 ∷ []) 2
-      ∷ row (Enter 2) (at (event 0 (number 1) ∷ event 0 (number 2) ∷ event 2 (number 10) ∷ []) (3 ∷ 1 ∷ 3 ∷ 1 ∷ []) all_in)
-      ((change 2 ∷ same 2 ∷ []) ∷ (change 2 ∷ same 2 ∷ []) ∷ (same 0 ∷ change 10 ∷ []) ∷ [])
-      (2 ∷ 10 ∷ 10 ∷ 1 ∷ []) (waits []) (change 1 ∷ []) 2
+      late_row (Feed 0 (number 1)) (at x_1 (four 1 0 1 0) all_in)
+      (one (change 1)) (one (change 1)) (one (same 0)) (four 1 0 0 0) [] [] 0
+      ∷ late_row (Claim 1) (at x_1 (four 1 0 1 0) (four false true false false))
+      (one (change 1)) (one (change 1)) (one (same 0)) (four 1 0 0 0) [] [] 0
+      ∷ late_row (Send 1) (at x_1 (four 1 1 1 0) all_in)
+      [] (one (change 1)) (one (same 0)) (four 1 10 0 0) (one (number 10)) [] 1
+      ∷ late_row (Feed 0 (number 2)) (at x_1_2 (four 2 1 2 0) all_in)
+      (one (change 2)) (two (change 1) (change 2)) (two (same 0) (same 0)) (four 2 10 0 0) (one (number 10)) [] 1
+      ∷ late_row (Claim 3) (at x_1_2 (four 2 1 2 0) (four false false false true))
+      (one (change 2)) (two (change 1) (change 2)) (two (same 0) (same 0)) (four 2 10 0 0) (one (number 10)) [] 1
+      ∷ late_row (Send 3) (at x_1_2 (four 2 1 2 1) all_in)
+      (one (change 2)) (one (change 2)) (one (same 0)) (four 2 10 0 1) (one (number 10)) (one (change 1)) 2
+      ∷ late_row (Enter 2) (at (three (event 0 (number 1)) (event 0 (number 2)) (event 2 (number 10))) (four 3 1 3 1) all_in)
+      (two (change 2) (same 2)) (two (change 2) (same 2)) (two (same 0) (change 10)) (four 2 10 10 1) [] (one (change 1)) 2
       ∷ [];
 }
 
@@ -208,15 +221,19 @@ late_rows = record {
 abbrev pub short : PlanValue
 short = record { graph = guarded; script = x_1; budget = 3; limit = 9; capacity = 1 }
 
+-- x was 1, and node 1 has taken no turn at it yet
+abbrev pub short_row : Move → List Bool → Option StopValue → Row
+short_row move out stop =
+    row move (record (at x_1 (two 1 0) out) { stop = stop }) (one (one (change 1))) (two 1 0) (two [] []) [] 0
+
 abbrev pub short_rows : Table
 short_rows = record {
   plan = short;
-  nodes = 0 ∷ 1 ∷ [];
+  nodes = two 0 1;
   rows =
-      row (Feed 0 (number 1)) (at x_1 (1 ∷ 0 ∷ []) (false ∷ false ∷ [])) ((change 1 ∷ []) ∷ []) (1 ∷ 0 ∷ []) ([] ∷ [] ∷ []) [] 0
-      ∷ row (Claim 1) (at x_1 (1 ∷ 0 ∷ []) (false ∷ true ∷ [])) ((change 1 ∷ []) ∷ []) (1 ∷ 0 ∷ []) ([] ∷ [] ∷ []) [] 0
-      ∷ row (Stop 1) (record (at x_1 (1 ∷ 0 ∷ []) (false ∷ false ∷ [])) { stop = Some (record { node = 1; position = 1 }) })
-      ((change 1 ∷ []) ∷ []) (1 ∷ 0 ∷ []) ([] ∷ [] ∷ []) [] 0
+      short_row (Feed 0 (number 1)) (two false false) None
+      ∷ short_row (Claim 1) (two false true) None
+      ∷ short_row (Stop 1) (two false false) (Some (record { node = 1; position = 1 }))
       ∷ [];
 }
 

@@ -1,4 +1,4 @@
-use Rattle.std.proofs.Common.{◌≡◌, ℕ, suc, zero, ◌+◌, ◌<◌, ◌≤◌, ◌∙◌, true, false, Some, List, [], ◌∷◌, length, refl, sym, ap, subst, arith}
+use Rattle.std.proofs.Common.{◌≡◌, ℕ, suc, zero, ◌+◌, ◌<◌, ◌∙◌, true, false, List, [], ◌∷◌, refl, sym, ap, subst, arith}
 use Rattle.std.proofs.lemmas.Option.{none-some, same_Some}
 use Rattle.std.proofs.lemmas.Bool.{false≢true}
 use Rattle.std.specs.Int.{int_wrap}
@@ -6,10 +6,9 @@ use Rattle.felm_graph.specs.Nodes.{is_source}
 use Rattle.felm_meaning.specs.Step.{call_value, step}
 use Rattle.felm_meaning.specs.Meaning.{defaults_to, message_of, row_to, row, msg, val, changes, sends}
 use Rattle.felm_meaning.specs.Journals.{entered}
-use Rattle.felm_core.specs.Positions.{done_at, Reads, HasRoom, HasTurn, IsReady, IsSettled}
-use Rattle.felm_core.specs.Moves.{HasPlace}
+use Rattle.felm_core.specs.Positions.{done_at, Reads, HasTurn}
 use Rattle.felm_core.specs.Contents.{edge_at, kept_at, waiting_at, outputs_at, turns_of}
-use Rattle.felm_core.specs.Instances.{at, chain, x_4, x_4_6, idle, out_1}
+use Rattle.felm_core.specs.Instances.{chain}
 use Rattle.felm_core.proofs.laws.positions_worked_by_hand.Goals as goal
 
 pub returns-clause-rows : goal.returns-clause-rows
