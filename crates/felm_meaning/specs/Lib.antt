@@ -11,6 +11,8 @@ pub mod Turns
 pub mod TurnInside
 pub mod Outcomes
 pub mod DoneInside
+pub mod PlanValue
+pub mod OfPlans
 pub mod Plans
 pub mod Values
 pub mod Presets

@@ -1,14 +1,12 @@
-use Rattle.std.proofs.Common.{◌≡◌, ◌∙◌, ◌<◌, ◌≤◌, ap, sym, subst, refl, length, map, get_or, Some, Option, arith}
-use Rattle.std.specs.Prelude.{IfOk, slice_get}
+use Rattle.std.proofs.Common.{◌≡◌, ◌∙◌, ◌<◌, ◌≤◌, ap, sym, subst, refl, length, map, get_or, arith}
+use Rattle.std.specs.Prelude.{IfOk}
 use Rattle.std.specs.Option.{option_map}
 use Rattle.std.proofs.lemmas.Option.{slice_get-get_or, slice_get-map, get_or_from_slice_get, slice_get_read}
 use Rattle.std.proofs.lemmas.List.{length-map}
 use Rattle.std.proofs.lemmas.List.Elements.{All-get_or}
 use Rattle.felm_term.specs.CoreTerm.{App}
 use Rattle.felm_term.specs.Values.{term_of, value_of}
-use Rattle.felm_term.specs.declared.value.Value.{Value}
 use Rattle.felm_term.specs.declared.value.Value.TheVariants as value
-use Rattle.felm_term.specs.declared.message.Message.{Message}
 use Rattle.felm_term.specs.declared.message.Message.TheVariants.{NoChange}
 use Rattle.felm_meaning.specs.Values.{message_at, messages_at}
 use Rattle.felm_meaning.proofs.Calls.{argument_more, arguments_all, application_typed, call_is}
