@@ -103,10 +103,6 @@ module _ {X : Type 0} (p : X → Bool) (xs : List X) (i : ℕ) where
       list_any_more p xs i x (slice_get_within xs i x here) ∙
       (ap (λ (t : Bool). t || p (get_or xs i x)) b ∙ (ap p (get_or_from_slice_get xs i x x here) ∙ h))
 
-  -- all of them
-  pub none_at_all : length xs ≤ i → list_any p (take i xs) ≡ false → false ≡ list_any p xs
-  none_at_all l h = sym h ∙ ap (list_any p) (take_all xs i l)
-
 -- ---- jobs
 
 pub lift_steps : (t : TurnValue) (w : Job) (f old : Value) (inputs : List Message) (b : ℕ) → w ≡ t.job → w ≡ job.Lift f → old ≡ t.previous

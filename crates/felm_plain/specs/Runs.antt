@@ -7,7 +7,7 @@ use Rattle.felm_graph.specs.GraphValue.{GraphValue}
 use Rattle.felm_graph.specs.Graphs.{IsGraph}
 use Rattle.felm_meaning.specs.declared.plan.Plan.{Plan}
 use Rattle.felm_meaning.specs.PlanValue.{PlanValue}
-use Rattle.felm_meaning.specs.OfPlans.{next_for}
+use Rattle.felm_meaning.specs.OfPlans.{CameNextFor, next_for}
 use Rattle.felm_meaning.specs.Plans.{plan_of}
 use Rattle.felm_meaning.specs.Meaning.{row, val, sends}
 use Rattle.felm_meaning.specs.Journals.{IsLegal, NamesInputs, IsLeastNone, inputs_in}
@@ -67,5 +67,5 @@ abbrev pub Enters : Plan → Run → Event → Run → Option ℕ → Type 0
 Enters p before e after None = IsBetween p after × (after.journal.items ≡ before.journal.items ++ e ∷ [])
 Enters p before e after (Some k) =
     (after.journal.items ≡ before.journal.items ++ e ∷ [])
-    × CameNext p.graph p.limits.turn_steps p.script.items p.limits.journal after.journal.items
+    × CameNextFor (plan_of p) after.journal.items
     × IsLeastNone p.graph (row p.graph p.limits.turn_steps after.journal.items (length after.journal.items)) k

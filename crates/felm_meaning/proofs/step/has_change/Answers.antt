@@ -1,6 +1,6 @@
 use Rattle.std.proofs.Common.{sym, ◌∙◌}
 use Rattle.felm_meaning.specs.Step.{is_change}
-use Rattle.felm_meaning.proofs.Calls.{any_here, none_more, none_at_all}
+use Rattle.felm_meaning.proofs.Calls.{any_here, none_more}
 use Rattle.felm_meaning.proofs.step.has_change.Goals as goal
 
 pub returns-then-is_change : goal.returns-then-is_change
