@@ -29,11 +29,10 @@ use Rattle.felm_script.specs.Script.{script_of, IsRefusal}
 use Rattle.felm_printer.specs.declared.status.Status.TheVariants.{Syntax}
 use Rattle.felm_printer.specs.declared.status.SyntaxCause.{SyntaxCause}
 use Rattle.felm_printer.specs.declared.status.SyntaxCause.TheVariants.{NoToken, Wide, Grammar, Depth, Twice}
-use Rattle.felm_cli.specs.Status.{status_of_lex_fault, status_of_parse_fault, status_of_type_fault, status_of_script_fault}
-use Rattle.felm_cli.specs.Faults.{IsSyntaxFault, AreRefused}
-use Rattle.felm_cli.specs.Plans.{IsProgramFault, IsCheckFault, IsEventsFault, OrMemory}
-use Rattle.felm_cli.specs.Promises.{IsOfTokens, IsOneFault}
-use Rattle.felm_cli.specs.Laws.{IsProgramOrFaulty, TextsAreProgramsOrFaulty, FaultyTextsAreNoPrograms, FaultyProgramsAreUntyped}
+use Rattle.felm_plans.specs.Status.{status_of_lex_fault, status_of_parse_fault, status_of_type_fault, status_of_script_fault}
+use Rattle.felm_plans.specs.Faults.{IsSyntaxFault, AreRefused, IsOfTokens, IsOneFault}
+use Rattle.felm_plans.specs.Plans.{IsProgramFault, IsCheckFault, IsEventsFault, OrMemory}
+use Rattle.felm_plans.specs.Laws.{IsProgramOrFaulty, TextsAreProgramsOrFaulty, FaultyTextsAreNoPrograms, FaultyProgramsAreUntyped}
 
 -- a text has at most one list of tokens
 same_tokens : (text : List ℕ) (one other : List Token) → Reads text (Whole one) → Reads text (Whole other) → one ≡ other

@@ -1,7 +1,7 @@
 use Rattle.std.proofs.Common.{refl, ap}
 use Rattle.std.specs.Prelude.{Err}
-use Rattle.felm_cli.proofs.Refusals.{parse_fault_is}
-use Rattle.felm_cli.proofs.plans.parse_tokens.Goals as goal
+use Rattle.felm_plans.proofs.Refusals.{parse_fault_is}
+use Rattle.felm_plans.proofs.plans.parse_tokens.Goals as goal
 
 pub returns-in-Ok-clause-program : goal.returns-in-Ok-clause-program
 returns-in-Ok-clause-program c = (c.args.tokens.now, c.requires, c.in-Ok.ensures.program)

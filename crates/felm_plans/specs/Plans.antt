@@ -1,4 +1,4 @@
--- The plan of an order's texts, or why they have none: the first case of the order of work that applies.
+-- The plan of two texts, and the graph of one, or why they have none: the first case of the order of work that applies.
 use Rattle.std.specs.Prelude.{◌≡◌, ℕ, ⊤, Bool, List, length, nat_le, Some, Ok, Err}
 use Rattle.felm_term.specs.CoreTerm.{CoreTerm}
 use Rattle.felm_term.specs.declared.event.Event.{Event}
@@ -16,8 +16,7 @@ use Rattle.felm_printer.specs.declared.status.Status.{Status}
 use Rattle.felm_printer.specs.declared.status.Status.TheVariants.{Syntax, Typing, Script, Stage, Memory}
 use Rattle.felm_printer.specs.declared.status.ScriptCause.{ScriptCause}
 use Rattle.felm_printer.specs.declared.status.StageCause.{StageCause}
-use Rattle.felm_cli.specs.Words.{OrderValue, Sync, Graph}
-use Rattle.felm_cli.specs.Faults.{IsSyntaxFault, IsTypingFault, IsStageFault, type_fault, script_fault}
+use Rattle.felm_plans.specs.Faults.{IsSyntaxFault, IsTypingFault, IsStageFault, type_fault, script_fault}
 
 -- at most 16,777,216 bytes
 abbrev pub is_short : List ℕ → Bool
@@ -98,11 +97,6 @@ IsPlanFault budget program script (Typing cause at) = IsTypingFault program caus
 IsPlanFault budget program script (Script cause line) = IsScriptFault program script cause line
 IsPlanFault budget program script (Stage cause) = AreUnplanned program script budget cause
 IsPlanFault budget program script _ = ⊥
-
--- why the texts of an order have no plan, or no graph, once their lengths are judged
-abbrev pub AreFaulty : OrderValue → List ℕ → List ℕ → Status → Type 0
-AreFaulty (Sync p s limits) program script status = IsPlanFault limits.stage_steps program script status
-AreFaulty (Graph p limits) program script status = IsGraphFault limits.stage_steps program status
 
 -- this holds of a status, or it says that there was no memory
 abbrev pub OrMemory : (Status → Type 0) → Status → Type 0

@@ -6,7 +6,7 @@ ghost use Rattle.felm_syntax.specs.Binders.{binders};
 ghost use Rattle.felm_syntax.specs.ProgramText.{IsProgramText};
 ghost use Rattle.felm_types.specs.Typed.{IsTyped, program_term};
 ghost use Rattle.felm_script.specs.Script.{script_of};
-ghost use Rattle.felm_cli.specs.Plans.{planned, HasGraph, HavePlan, IsStagedTerm, IsProgramFault, IsCheckFault, IsEventsFault, IsTermFault, IsGraphFault, IsPlanFault, OrMemory};
+ghost use Rattle.felm_plans.specs.Plans.{planned, HasGraph, HavePlan, IsStagedTerm, IsProgramFault, IsCheckFault, IsEventsFault, IsTermFault, IsGraphFault, IsPlanFault, OrMemory};
 
 use crate::faults::{
     status_of_lex_fault, status_of_parse_fault, status_of_script_fault, status_of_type_fault,

@@ -28,10 +28,10 @@ use Rattle.felm_printer.specs.declared.status.StageCause.{StageCause}
 use Rattle.felm_printer.specs.declared.status.StageCause.TheVariants.{Over, Large}
 use Rattle.felm_script.specs.Script.{script_of}
 use Rattle.felm_script.proofs.Fits.{fit}
-use Rattle.felm_cli.specs.Faults.{IsStageFault}
-use Rattle.felm_cli.specs.Plans.{Planned, HavePlan, HasGraph, IsTypedText, IsStagedAs, IsStagedTerm, IsUnstaged, IsTermFault, IsGraphFault, IsPlanFault, OrMemory}
-use Rattle.felm_cli.specs.Laws.{OnePlan, OneGraph}
-use Rattle.felm_cli.proofs.Refusals.{one_text}
+use Rattle.felm_plans.specs.Faults.{IsStageFault}
+use Rattle.felm_plans.specs.Plans.{Planned, HavePlan, HasGraph, IsTypedText, IsStagedAs, IsStagedTerm, IsUnstaged, IsTermFault, IsGraphFault, IsPlanFault, OrMemory}
+use Rattle.felm_plans.specs.Laws.{OnePlan, OneGraph}
+use Rattle.felm_plans.proofs.Refusals.{one_text}
 
 -- a program has one core term at most
 one_term : (program : Program) (t u : CoreTerm) → program_term program ≡ Some t → program_term program ≡ Some u → t ≡ u

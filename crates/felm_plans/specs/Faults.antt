@@ -1,5 +1,5 @@
 -- What is wrong with a text, by the cause and the place that a status tells.
-use Rattle.std.specs.Prelude.{◌≡◌, ℕ, List, Some, None}
+use Rattle.std.specs.Prelude.{◌≡◌, ℕ, ⊤, List, Some, None}
 use Rattle.felm_term.specs.CoreTerm.{CoreTerm}
 use Rattle.felm_term.specs.declared.input.InputDecl.{InputDecl}
 use Rattle.felm_lexer.specs.declared.token.Token.{Token}
@@ -15,6 +15,8 @@ use Rattle.felm_script.specs.declared.fault.ScriptFault.{ScriptFault}
 use Rattle.felm_script.specs.declared.fault.ScriptFault.TheVariants as scripting
 use Rattle.felm_graph.specs.FinishedPair.{FinishedPair, FinishGives}
 use Rattle.felm_stage.specs.Outcome.{IsLarge}
+use Rattle.felm_printer.specs.declared.status.Status.{Status}
+use Rattle.felm_printer.specs.declared.status.Status.TheVariants.{Syntax}
 use Rattle.felm_printer.specs.declared.status.SyntaxCause.{SyntaxCause}
 use Rattle.felm_printer.specs.declared.status.SyntaxCause.TheVariants.{NoToken, Wide, Grammar, Depth, Twice}
 use Rattle.felm_printer.specs.declared.status.TypingCause.{TypingCause}
@@ -38,6 +40,19 @@ abbrev pub IsSyntaxFault : List ℕ → SyntaxCause → ℕ → Type 0
 IsSyntaxFault text NoToken at = Reads text (NoTokenAt at)
 IsSyntaxFault text Wide at = Reads text (TooWideAt at)
 IsSyntaxFault text cause at = (tokens : List Token) × Reads text (Whole tokens) × IsPlace text tokens at × AreRefused cause text tokens
+
+-- a fault of a text whose tokens are no program
+abbrev pub IsOfTokens : Status → Type 0
+IsOfTokens (Syntax Grammar at) = ⊤
+IsOfTokens (Syntax Depth at) = ⊤
+IsOfTokens (Syntax Twice at) = ⊤
+IsOfTokens _ = ⊥
+
+-- the same fault of the program's text; where its tokens are no program, the cause among these and the place may differ
+abbrev pub IsOneFault : SyntaxCause → ℕ → Status → Type 0
+IsOneFault NoToken at status = status ≡ Syntax NoToken at
+IsOneFault Wide at status = status ≡ Syntax Wide at
+IsOneFault _ at status = IsOfTokens status
 
 -- ---- its types
 

@@ -13,9 +13,9 @@ use Rattle.felm_syntax.specs.Grammar as g
 use Rattle.felm_syntax.specs.Kinds.{is_name_kind, is_named, text_of}
 use Rattle.felm_printer.specs.Names.{is_word, AreNames}
 use Rattle.felm_printer.proofs.TextLaws.{result_names_journal, stopped_names_journal}
-use Rattle.felm_cli.specs.Plans.{Planned, HavePlan}
-use Rattle.felm_cli.specs.Laws.{TextsNameTheirJournals}
-use Rattle.felm_cli.proofs.Graphs.{staged_is_graph}
+use Rattle.felm_plans.specs.Plans.{Planned, HavePlan}
+use Rattle.felm_plans.specs.Laws.{TextsNameTheirJournals}
+use Rattle.felm_plans.proofs.Graphs.{staged_is_graph}
 
 -- ---- a name that the grammar reads is a word
 

@@ -1,5 +1,5 @@
-use Rattle.felm_cli.proofs.Graphs.{has_graph, graph_faults}
-use Rattle.felm_cli.proofs.plans.read_graph.Goals as goal
+use Rattle.felm_plans.proofs.Graphs.{has_graph, graph_faults}
+use Rattle.felm_plans.proofs.plans.read_graph.Goals as goal
 
 pub returns-clause-graph : goal.returns-clause-graph
 returns-clause-graph c =

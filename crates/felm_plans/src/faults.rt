@@ -1,6 +1,6 @@
 //! The statuses of what is wrong with texts.
 ghost use Rattle.std.specs.Prelude.{◌≡◌};
-ghost use Rattle.felm_cli.specs.Status.{status_of_lex_fault, status_of_parse_fault, status_of_type_fault, status_of_script_fault};
+ghost use Rattle.felm_plans.specs.Status.{status_of_lex_fault, status_of_parse_fault, status_of_type_fault, status_of_script_fault};
 
 use felm_lexer::LexFault;
 use felm_parser::ParseFault;

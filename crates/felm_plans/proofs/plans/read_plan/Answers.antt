@@ -2,9 +2,9 @@ use Rattle.std.proofs.lemmas.Result.{err_from_is_err_and}
 use Rattle.std.proofs.Common.{◌≡◌, ap, subst}
 use Rattle.std.specs.Prelude.{Ok}
 use Rattle.felm_script.specs.Script.{script_of}
-use Rattle.felm_cli.specs.Plans.{planned}
-use Rattle.felm_cli.proofs.Graphs.{have_plan, plan_fault}
-use Rattle.felm_cli.proofs.plans.read_plan.Goals as goal
+use Rattle.felm_plans.specs.Plans.{planned}
+use Rattle.felm_plans.proofs.Graphs.{have_plan, plan_fault}
+use Rattle.felm_plans.proofs.plans.read_plan.Goals as goal
 
 pub returns-in_err-graph-clause-fault : goal.returns-in_err-graph-clause-fault
 returns-in_err-graph-clause-fault c =
