@@ -11,8 +11,6 @@ mod laws;
 mod outcome;
 mod plan;
 mod preset;
-#[cfg(test)]
-mod tests;
 mod turn;
 mod turn_inputs;
 
