@@ -11,12 +11,13 @@ use Rattle.felm_printer.specs.declared.status.SyntaxCause.{SyntaxCause}
 use Rattle.felm_printer.specs.declared.status.SyntaxCause.TheVariants.{NoToken, Wide, Grammar, Depth, Twice}
 use Rattle.felm_printer.specs.declared.status.Which.{Which}
 use Rattle.felm_printer.specs.declared.status.Which.TheVariants as which
+use Rattle.felm_plans.specs.Faults.{IsOfTokens, IsOneFault}
+use Rattle.felm_plans.specs.Plans.{is_short}
+use Rattle.felm_plans.proofs.Graphs.{plan_keeps}
 use Rattle.felm_cli.specs.Words.{OrderValue, Sync, Graph, file_of}
-use Rattle.felm_cli.specs.Plans.{is_short, AreFaulty}
-use Rattle.felm_cli.specs.Ends.{EndsWith, IsTextOfEnd, LeavesText}
+use Rattle.felm_cli.specs.Ends.{AreFaulty, EndsWith, IsTextOfEnd, LeavesText}
 use Rattle.felm_cli.specs.Outcomes.{OfOrder, OfShort, IsTooLong, HaveEnd, HavePrefix, OrderOutcome, WordsOutcome}
-use Rattle.felm_cli.specs.Promises.{HaveResult, HaveStop, HaveFull, AreTexts, ComeTo, IsOfTokens, IsOneFault, IsOneWith, Answers, LackDefault, CanBeDone}
-use Rattle.felm_cli.proofs.Graphs.{plan_keeps}
+use Rattle.felm_cli.specs.Promises.{HaveResult, HaveStop, HaveFull, AreTexts, ComeTo, IsOneWith, Answers, LackDefault, CanBeDone}
 use Rattle.felm_cli.proofs.RunEnds.{complete_run, stopped_run, full_run, default_stops, run_completes}
 use Rattle.felm_cli.proofs.Outcomes.{further}
 use Rattle.felm_cli.proofs.Exact.{one_end}

@@ -14,14 +14,14 @@ use Rattle.felm_printer.specs.declared.status.TypingCause.TheVariants.{Untyped, 
 use Rattle.felm_printer.specs.declared.status.ScriptCause.{ScriptCause}
 use Rattle.felm_printer.specs.declared.status.ScriptCause.TheVariants.{Line, Name, Literal}
 use Rattle.felm_printer.specs.declared.status.StageCause.{StageCause}
+use Rattle.felm_plans.specs.Faults.{IsSyntaxFault, IsTypingFault, IsOneFault, type_fault, script_fault}
+use Rattle.felm_plans.specs.Plans.{Planned, is_short, IsTypedText, IsUnstaged}
+use Rattle.felm_plans.proofs.Refusals.{one_text, one_fault, faulty_texts, faulty_programs}
+use Rattle.felm_plans.proofs.Graphs.{one_plan, one_stage_fault, staged_or_not}
 use Rattle.felm_cli.specs.Words.{OrderValue, Sync, Graph}
-use Rattle.felm_cli.specs.Faults.{IsSyntaxFault, IsTypingFault, type_fault, script_fault}
-use Rattle.felm_cli.specs.Plans.{Planned, is_short, IsTypedText, IsUnstaged, AreFaulty}
-use Rattle.felm_cli.specs.Ends.{EndsWith, RunEnds}
-use Rattle.felm_cli.specs.Promises.{CanEnd, ComeTo, IsOneFault}
+use Rattle.felm_cli.specs.Ends.{AreFaulty, EndsWith, RunEnds}
+use Rattle.felm_cli.specs.Promises.{CanEnd, ComeTo}
 use Rattle.felm_cli.specs.Laws.{TextsComeToOneEnd}
-use Rattle.felm_cli.proofs.Refusals.{one_text, one_fault, faulty_texts, faulty_programs}
-use Rattle.felm_cli.proofs.Graphs.{one_plan, one_stage_fault, staged_or_not}
 use Rattle.felm_cli.proofs.RunEnds.{one_run_end}
 
 -- ---- faults of a text by their cause and place

@@ -13,8 +13,6 @@ mod outcome;
 mod plan;
 mod preset;
 mod step;
-#[cfg(test)]
-mod tests;
 mod turn;
 mod turn_inputs;
 
