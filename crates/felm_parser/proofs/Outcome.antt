@@ -10,13 +10,16 @@ use Rattle.felm_syntax.specs.Expression.{Expression}
 use Rattle.felm_syntax.specs.ProgramText.{nesting_limit, IsProgram}
 use Rattle.felm_syntax.specs.declared.program.Program.{Program}
 use Rattle.felm_reading.specs.Places.{IsPlace}
-use Rattle.felm_reading.specs.Reading.{Syntax, Depth, Twice, program_after}
+use Rattle.felm_reading.specs.Laws.{IsFirstFault}
+use Rattle.felm_reading.specs.Reading.{Fault, Syntax, Depth, Twice, program_after}
+use Rattle.felm_reading.proofs.Exact.{first_fault}
+use Rattle.felm_reading.proofs.OneFault.{first_fault_met}
 use Rattle.felm_reading.proofs.Sizes.{program_size}
 use Rattle.felm_reading.proofs.Stops.{fault_place}
 use Rattle.felm_reading.proofs.Whole.{program_sound, program_syntax, program_depth, program_twice, one_program}
 use Rattle.felm_parser.specs.declared.fault.ParseFault.{ParseFault}
 use Rattle.felm_parser.specs.declared.fault.ParseFault.TheVariants as fault
-use Rattle.felm_parser.specs.Gives.{Gives}
+use Rattle.felm_parser.specs.Gives.{Gives, fault_of}
 use Rattle.felm_parser.specs.Refusals.{IsNoProgram, NestsTooDeeply, DeclaresTwice, place_of}
 
 -- the inputs and the expression of a program
@@ -68,3 +71,21 @@ place text ts (Err fault.Memory) read = tt
 place text ts (Err (fault.Syntax at)) read = fault_place text nesting_limit ts (Syntax at) read
 place text ts (Err (fault.Depth at)) read = fault_place text nesting_limit ts (Depth at) read
 place text ts (Err (fault.Twice at)) read = fault_place text nesting_limit ts (Twice at) read
+
+-- a refusal is the first fault
+pub fault_is : (text : List ℕ) (ts : List Token) (result : Result Program ParseFault) → IsRead text ts result → Tokenizes text (Whole ts)
+    → IfErr result (λ refusal. IfSome (fault_of refusal) (λ first. IsFirstFault text nesting_limit ts first))
+fault_is text ts (Ok program) read tokenizes = tt
+fault_is text ts (Err fault.Memory) read tokenizes = tt
+fault_is text ts (Err (fault.Syntax at)) read tokenizes = first_fault text nesting_limit ts (Syntax at) tokenizes read
+fault_is text ts (Err (fault.Depth at)) read tokenizes = first_fault text nesting_limit ts (Depth at) tokenizes read
+fault_is text ts (Err (fault.Twice at)) read tokenizes = first_fault text nesting_limit ts (Twice at) tokenizes read
+
+-- the first fault is refused
+pub refuses : (text : List ℕ) (ts : List Token) (result : Result Program ParseFault) → IsRead text ts result → Tokenizes text (Whole ts)
+    → (first : Fault) → IsFirstFault text nesting_limit ts first → MatchResult result (λ _. ⊥) (λ refusal. IfSome (fault_of refusal) (λ found. found ≡ first))
+refuses text ts (Ok program) read tokenizes first is = let met = first_fault_met text nesting_limit ts first tokenizes is in absurd (cc)
+refuses text ts (Err fault.Memory) read tokenizes first is = tt
+refuses text ts (Err (fault.Syntax at)) read tokenizes first is = let met = first_fault_met text nesting_limit ts first tokenizes is in cc
+refuses text ts (Err (fault.Depth at)) read tokenizes first is = let met = first_fault_met text nesting_limit ts first tokenizes is in cc
+refuses text ts (Err (fault.Twice at)) read tokenizes first is = let met = first_fault_met text nesting_limit ts first tokenizes is in cc

@@ -3,10 +3,12 @@ ghost use Rattle.std.specs.Prelude.{◌≡◌, ℕ, ◌+◌, ◌≤◌, [], leng
 ghost use Rattle.felm_lexer.specs.Readings.{Reads as Tokenizes, Whole};
 ghost use Rattle.felm_syntax.specs.Binders.{binders};
 ghost use Rattle.felm_syntax.specs.ProgramText.{IsProgram};
-ghost use Rattle.felm_parser.specs.Gives.{Gives};
+ghost use Rattle.felm_syntax.specs.ProgramText.{nesting_limit};
+ghost use Rattle.felm_parser.specs.Gives.{Gives, fault_of};
 ghost use Rattle.felm_parser.specs.Refusals.{IsNoProgram, NestsTooDeeply, DeclaresTwice, place_of};
+ghost use Rattle.felm_reading.specs.Laws.{IsFirstFault};
 ghost use Rattle.felm_reading.specs.Places.{IsPlace};
-ghost use Rattle.felm_reading.specs.Reading.{all_of, main_of, program_after};
+ghost use Rattle.felm_reading.specs.Reading.{Fault, all_of, main_of, program_after};
 
 use crate::declarations::declaration;
 use crate::expressions::whole;
@@ -67,6 +69,11 @@ pub fn parse(alloc: Global, text: &[u8], tokens: &[Token]) -> Result<Program, Pa
     ensures accepts { (program : Program) → IsProgram text.now tokens.now program
         → MatchResult result (λ found. found ≡ program) (λ fault. fault ≡ ParseFault.Memory) }
     ensures size { IfOk result (λ program. length program.inputs + binders program.main ≤ length text.now) }
+
+    // A refusal is the first fault, and the first fault is refused.
+    ensures fault { IfErr result (λ fault. IfSome (fault_of fault) (λ first. IsFirstFault text.now nesting_limit tokens.now first)) }
+    ensures refuses { (first : Fault) → IsFirstFault text.now nesting_limit tokens.now first
+        → MatchResult result (λ _. ⊥) (λ fault. IfSome (fault_of fault) (λ found. found ≡ first)) }
 
     // Each refusal has its ground, and its place is a token's start or the end of the text.
     ensures syntax { (at : ℕ) → IsErrOf result (ParseFault.Syntax at) → IsNoProgram text.now tokens.now }

@@ -1,4 +1,4 @@
-use crate::parse;
+use crate::{ParseFault, parse};
 use felm_lexer::tokens;
 use felm_syntax::{Expr, Exprs, ExprsForm, Form, Program};
 use felm_term::{Ty, TyForm};
@@ -484,6 +484,25 @@ fn brackets_nest_199_deep(rt: HostRuntime) -> Result<(), Fail> {
         }
         let found = verdict(alloc, text.as_str())?;
         assert_eq!(&rt; found.as_str(), want, "at {count}");
+    }
+    Ok(())
+}
+
+#[test]
+fn cuts_after_each_byte_are_read_or_refused_within(rt: HostRuntime) -> Result<(), Fail> {
+    let alloc = rt.alloc();
+    let bytes = SMALL.as_bytes();
+    for cut in 0..bytes.len() + 1 {
+        let before = bytes.get(..cut).unwrap_or(b"");
+        if let Ok(tokens) = tokens(alloc, before) {
+            let at = match parse(alloc, before, tokens.as_slice()) {
+                Err(ParseFault::Syntax { at }) => at,
+                Err(ParseFault::Depth { at }) => at,
+                Err(ParseFault::Twice { at }) => at,
+                _ => 0,
+            };
+            assert!(&rt; at <= cut, "cut at {cut}");
+        }
     }
     Ok(())
 }

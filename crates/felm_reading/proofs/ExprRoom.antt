@@ -26,7 +26,7 @@ run text room g.app ts = operand text (reads_in text room) ts
 run text room g.atom ts = atom text (reads_in text room) ts
 
 -- phrases that an operand begins
-abbrev low : Phrase → Bool
+abbrev pub low : Phrase → Bool
 low g.expr = false
 low (g.chain _) = true
 low g.cmp = true
@@ -34,7 +34,7 @@ low g.operand = true
 low g.app = true
 low g.atom = true
 
-part_low : (l : Level) → low (part l) ≡ true
+pub part_low : (l : Level) → low (part l) ≡ true
 part_low level.Or = refl
 part_low level.And = refl
 part_low level.Sum = refl
@@ -71,14 +71,14 @@ expr_starts (g.binding h _ _ _ _ _) = rw h refl
 expr_starts (g.choice h _ _ _ _ _) = rw h refl
 expr_starts (g.plain {ts} d) = operand_expr ts (operand_starts d refl)
 
-run_part : (text : List ℕ) (room : ℕ) (l : Level) (ts : List Token) → run text room (part l) ts ≡ part_of text (reads_in text room) l ts
+pub run_part : (text : List ℕ) (room : ℕ) (l : Level) (ts : List Token) → run text room (part l) ts ≡ part_of text (reads_in text room) l ts
 unfolding part_of chained
 run_part text room level.Or ts = refl
 run_part text room level.And ts = refl
 run_part text room level.Sum ts = refl
 run_part text room level.Product ts = refl
 
-chained-is : (text : List ℕ) (inner : Reader) (l : Level) (ts : List Token) →
+pub chained-is : (text : List ℕ) (inner : Reader) (l : Level) (ts : List Token) →
     chained text inner l ts ≡ (part_of text inner l ts >>= λ a. continues text inner l a.0 a.1)
 unfolding chained disjunction conjunction sum product part_of
 chained-is text inner level.Or ts = refl
@@ -87,7 +87,7 @@ chained-is text inner level.Sum ts = refl
 chained-is text inner level.Product ts = refl
 
 -- an operator ends a part of its chain
-part_power : (l : Level) (n : ℕ) → n ≤ level_rank l → n < power (part l)
+pub part_power : (l : Level) (n : ℕ) → n ≤ level_rank l → n < power (part l)
 part_power level.Or n h = omega arith
 part_power level.And n h = omega arith
 part_power level.Sum n h = omega arith

@@ -42,7 +42,7 @@ some_tokens [] h = cc
 some_tokens (t ∷ ts) h = omega arith
 
 -- more declarations than tokens make no difference
-enough : (text : List ℕ) (room n m : ℕ) (seen : List InputDecl) (ts : List Token) → length ts ≤ n → length ts ≤ m → (b : Bool) →
+pub enough : (text : List ℕ) (room n m : ℕ) (seen : List InputDecl) (ts : List Token) → length ts ≤ n → length ts ≤ m → (b : Bool) →
     has_word word.Input ts ≡ b → program_in text room n seen ts ≡ program_in text room m seen ts
 enough text room n m seen ts le also false h = main_step text room n seen ts h ∙ sym (main_step text room m seen ts h)
 enough text room zero m seen ts le also true h = absurd (omega (arith, some_tokens ts h))

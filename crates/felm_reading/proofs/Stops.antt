@@ -22,7 +22,7 @@ use Rattle.felm_reading.specs.Places.{IsPlace, place_of_fault}
 use Rattle.felm_reading.specs.Reading.{Fault, Syntax, Twice, ◌>>=◌, Answer, Reader, Deeper, Whole, Right, Arguments, place, has_mark, has_word, starts_operand, starts_expr, starts_type, operator_at, comparison_at, lift_at, refused, expect, expect_word, name, numeral, closed_type, signal_type, whole_type, type_in, atom, bracketed, atoms, applies, applied, lift, foldp, async_of, negative, operand, continues, product, sum, compared, cmp, conjunction, disjunction, part_of, function, binding, choice, expr, reads_in, all_of, literal, new_name, int_input, unit_input, described, declaration, main_of, program_in, program_after}
 
 -- the tokens end with these
-data IsTail : List Token → List Token → Type 0 where
+pub data IsTail : List Token → List Token → Type 0 where
   all : {ts : List Token} → IsTail ts ts
   behind : {t : Token} {ts rest : List Token} → IsTail ts rest → IsTail (t ∷ ts) rest
 
@@ -50,7 +50,7 @@ place_before text at all h = h
 place_before text at (behind {t} {ts} tail) h = place_behind text t ts at (place_before text at tail h)
 
 -- an answer on tokens leaves a tail of them, or stops at one of them or at the end of the text
-data Stops {A : Type 0} (text : List ℕ) (left : A → List Token) (ts : List Token) : Result A Fault → Type 0 where
+pub data Stops {A : Type 0} (text : List ℕ) (left : A → List Token) (ts : List Token) : Result A Fault → Type 0 where
   goes : {x : A} → IsTail ts (left x) → Stops text left ts (Ok x)
   stops : {fault : Fault} → IsPlace text ts (place_of_fault fault) → Stops text left ts (Err fault)
 
@@ -59,7 +59,7 @@ stops_before : {A : Type 0} (text : List ℕ) (left : A → List Token) {ts us :
 stops_before text left tail (goes h) = goes (tail_tail tail h)
 stops_before text left tail (stops {fault} h) = stops (place_before text (place_of_fault fault) tail h)
 
-stops_then : {A B : Type 0} (text : List ℕ) (left : A → List Token) (more : B → List Token) {ts : List Token} {answer : Result A Fault}
+pub stops_then : {A B : Type 0} (text : List ℕ) (left : A → List Token) (more : B → List Token) {ts : List Token} {answer : Result A Fault}
     (f : A → Result B Fault) → Stops text left ts answer → ((x : A) → Stops text more (left x) (f x)) → Stops text more ts (answer >>= f)
 stops_then text left more f (goes {x} h) k = stops_before text more h (k x)
 stops_then text left more f (stops h) k = stops h
@@ -70,16 +70,16 @@ stops_if text left ts true x y h k = h
 stops_if text left ts false x y h k = k
 
 -- what an answer leaves
-abbrev rest : {A : Type 0} → A × List Token → List Token
+abbrev pub rest : {A : Type 0} → A × List Token → List Token
 rest x = x.1
 
-abbrev itself : List Token → List Token
+abbrev pub itself : List Token → List Token
 itself ts = ts
 
-abbrev none : {A : Type 0} → A → List Token
+abbrev pub none : {A : Type 0} → A → List Token
 none x = []
 
-expect_stops : (text : List ℕ) (s : Symbol) (ts : List Token) → Stops text itself ts (expect text s ts)
+pub expect_stops : (text : List ℕ) (s : Symbol) (ts : List Token) → Stops text itself ts (expect text s ts)
 unfolding expect
 expect_stops text s ts = stops_if text itself ts _ _ _ (goes (one_less ts)) (stops (place_first text ts))
 
@@ -340,7 +340,7 @@ main_stops text room ts =
     stops_then text itself none _ (expect_stops text symbol.Equals us) (λ vs.
     stops_then text rest none _ (reads_stop text room Whole vs) (λ e. end_stops text e.0 e.1)))
 
-literal_stops : (text : List ℕ) (ts : List Token) → Stops text rest ts (literal text ts)
+pub literal_stops : (text : List ℕ) (ts : List Token) → Stops text rest ts (literal text ts)
 unfolding literal
 literal_stops text ts =
     stops_if text rest ts _ _ _ (stops_before text rest (one_less ts) (numeral_stops negated text (drop 1 ts))) (numeral_stops unsigned_number text ts)
@@ -351,7 +351,7 @@ new_name_by : (text : List ℕ) (seen : List InputDecl) (ts : List Token) (answe
 new_name_by text seen ts (Ok x) (goes h) = stops_if text rest ts _ _ _ (stops (place_first text ts)) (goes h)
 new_name_by text seen ts (Err fault) (stops h) = stops h
 
-new_name_stops : (text : List ℕ) (seen : List InputDecl) (ts : List Token) → Stops text rest ts (new_name text seen ts)
+pub new_name_stops : (text : List ℕ) (seen : List InputDecl) (ts : List Token) → Stops text rest ts (new_name text seen ts)
 unfolding new_name
 new_name_stops text seen ts = new_name_by text seen ts (name text ts) (name_stops text ts)
 
@@ -368,18 +368,24 @@ unit_stops text x ts =
     stops_then text itself rest _ (expect_stops text symbol.OpenBracket us) (λ vs.
     stops_then text itself rest _ (expect_stops text symbol.CloseBracket vs) (λ ws. goes all))))
 
-described_stops : (text : List ℕ) (x : List ℕ) (ts : List Token) → Stops text rest ts (described text x ts)
+pub described_stops : (text : List ℕ) (x : List ℕ) (ts : List Token) → Stops text rest ts (described text x ts)
 unfolding described
 described_stops text x ts =
     stops_if text rest ts _ _ _ (int_stops text x ts) (stops_if text rest ts _ _ _ (unit_stops text x ts) (stops (place_first text ts)))
 
-declaration_stops : (text : List ℕ) (seen : List InputDecl) (ts : List Token) → Stops text rest ts (declaration text seen ts)
+-- what stands behind the word of a declaration
+pub behind_stops : (text : List ℕ) (seen : List InputDecl) (ts : List Token) →
+    Stops text rest ts (new_name text seen ts >>= λ x. (expect text symbol.Colon x.1 >>= λ us. described text x.0 us))
+behind_stops text seen ts =
+    stops_then text rest rest _ (new_name_stops text seen ts) (λ x. stops_then text itself rest _ (expect_stops text symbol.Colon x.1) (λ us. described_stops text x.0 us))
+
+pub declaration_stops : (text : List ℕ) (seen : List InputDecl) (ts : List Token) → Stops text rest ts (declaration text seen ts)
 unfolding declaration
 declaration_stops text seen ts =
     stops_before text rest (one_less ts) (stops_then text rest rest _ (new_name_stops text seen (drop 1 ts)) (λ x.
     stops_then text itself rest _ (expect_stops text symbol.Colon x.1) (λ us. described_stops text x.0 us)))
 
-program_stops : (text : List ℕ) (room n : ℕ) (seen : List InputDecl) (ts : List Token) → Stops text none ts (program_in text room n seen ts)
+pub program_stops : (text : List ℕ) (room n : ℕ) (seen : List InputDecl) (ts : List Token) → Stops text none ts (program_in text room n seen ts)
 unfolding program_in
 program_stops text room zero seen ts = stops_then text none none _ (main_stops text room ts) (λ main. goes all)
 program_stops text room (suc more) seen ts =

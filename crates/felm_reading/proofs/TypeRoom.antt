@@ -31,7 +31,7 @@ type_starts (g.int_type h) = rw h refl
 type_starts (g.unit_type h) = rw h refl
 type_starts (g.type_brackets o d c) = rw o refl
 
-closed_is : {ts rest : List Token} {t : CoreType} → ReadsType g.closed ts rest t → has_word word.Signal ts ≡ false
+pub closed_is : {ts rest : List Token} {t : CoreType} → ReadsType g.closed ts rest t → has_word word.Signal ts ≡ false
 closed_is (g.int_type h) = rw h refl
 closed_is (g.unit_type h) = rw h refl
 closed_is (g.type_brackets o d c) = rw o refl

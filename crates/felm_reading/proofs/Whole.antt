@@ -195,7 +195,7 @@ program_twice text limit at ts h ds main r distinct = elim (program_judged text 
 ]
 
 -- a declaration is read in one way
-one_declaration : {text : List ℕ} {ts us vs : List Token} {d e : InputDecl} → ReadsDeclaration text ts us d → ReadsDeclaration text ts vs e →
+pub one_declaration : {text : List ℕ} {ts us vs : List Token} {d e : InputDecl} → ReadsDeclaration text ts us d → ReadsDeclaration text ts vs e →
     (us ≡ vs) × (d ≡ e)
 one_declaration {text} {ts} {us} {vs} {d} {e} r s =
     let same = both (declaration text [] ts) (d, us) (e, vs) (declaration_read text [] r) (declaration_read text [] s) in

@@ -1,5 +1,5 @@
 -- What ties the reading function to the grammar. Each is a fact about all texts and tokens.
-use Rattle.std.specs.Prelude.{◌≡◌, ℕ, ◌+◌, ◌<◌, ◌≤◌, List, [], length, Ok, Err, Some, bytes_eq}
+use Rattle.std.specs.Prelude.{◌≡◌, ℕ, ◌+◌, ◌<◌, ◌≤◌, List, [], length, Ok, Err, Some, bytes_eq, ◌⊎◌}
 use Rattle.std.specs.List.{All, IsDistinct}
 use Rattle.felm_term.specs.Inputs.{names_of}
 use Rattle.felm_term.specs.declared.input.InputDecl.{InputDecl}
@@ -8,6 +8,7 @@ use Rattle.felm_lexer.specs.declared.kind.TokenKind.TheVariants.{Name}
 use Rattle.felm_lexer.specs.declared.token.Token.{Token}
 use Rattle.felm_syntax.specs.Binders.{binders}
 use Rattle.felm_syntax.specs.Expression.{Expression}
+use Rattle.felm_syntax.specs.FirstFaults.{RefusesToken, IsCutShort, syntax, depth, twice}
 use Rattle.felm_syntax.specs.Grammar.{ReadsProgram}
 use Rattle.felm_syntax.specs.Kinds.{name_of, text_of}
 use Rattle.felm_syntax.specs.Nesting.{nesting}
@@ -58,3 +59,23 @@ OneProgram = (text : List ℕ) (ts : List Token) (ds es : List InputDecl) (main 
 abbrev pub TokenNames : Type 0
 TokenNames = (text : List ℕ) (tokens : List Token) → Tokenizes text (Whole tokens)
     → All (λ t. t.kind ≡ Name → name_of text t ≡ Some (text_of text t)) tokens
+
+-- the fault is the first one, as tokens are judged from the left
+abbrev pub IsFirstFault : List ℕ → ℕ → List Token → Fault → Type 0
+IsFirstFault text limit ts (Syntax at) = RefusesToken text limit syntax ts at ⊎ (IsCutShort text limit ts × (at ≡ length text))
+IsFirstFault text limit ts (Depth at) = RefusesToken text limit depth ts at
+IsFirstFault text limit ts (Twice at) = RefusesToken text limit twice ts at
+
+-- Of the tokens of a text, reading stops at the first fault.
+abbrev pub FirstFault : Type 0
+FirstFault = (text : List ℕ) (limit : ℕ) (ts : List Token) (fault : Fault) → Tokenizes text (Whole ts) → program_after text limit [] ts ≡ Err fault
+    → IsFirstFault text limit ts fault
+
+-- tokens have at most one first fault
+abbrev pub OneFirstFault : Type 0
+OneFirstFault = (text : List ℕ) (limit : ℕ) (ts : List Token) (fault other : Fault) → IsFirstFault text limit ts fault → IsFirstFault text limit ts other → fault ≡ other
+
+-- Where the tokens of a text have a first fault, reading stops there.
+abbrev pub FirstFaultMet : Type 0
+FirstFaultMet = (text : List ℕ) (limit : ℕ) (ts : List Token) (fault : Fault) → Tokenizes text (Whole ts) → IsFirstFault text limit ts fault
+    → program_after text limit [] ts ≡ Err fault

@@ -1,6 +1,6 @@
 //! Laws that tie the reading function to the grammar. Each function's contract is a law, and its
 //! body does nothing.
-ghost use Rattle.felm_reading.specs.Laws.{ProgramSound, ProgramComplete, ProgramSyntax, ProgramDepth, ProgramTwice, FaultPlace, ProgramSize, OneProgram, TokenNames};
+ghost use Rattle.felm_reading.specs.Laws.{ProgramSound, ProgramComplete, ProgramSyntax, ProgramDepth, ProgramTwice, FaultPlace, ProgramSize, OneProgram, TokenNames, FirstFault, OneFirstFault, FirstFaultMet};
 
 /// What is read is a program by the grammar, with distinct names and within the limit of nesting.
 pub fn what_is_read_is_a_program()
@@ -45,4 +45,19 @@ pub fn one_program()
 /// Of the tokens of a text, each of the kind of names is the name that its slice spells.
 pub fn name_tokens_have_names()
     ensures { TokenNames }
+{}
+
+/// Where reading stops in the tokens of a text, the fault is the first one as they are judged from the left.
+pub fn faults_are_the_first()
+    ensures { FirstFault }
+{}
+
+/// Tokens have at most one first fault.
+pub fn one_first_fault()
+    ensures { OneFirstFault }
+{}
+
+/// Where the tokens of a text have a first fault, reading stops there.
+pub fn the_first_fault_is_met()
+    ensures { FirstFaultMet }
 {}
