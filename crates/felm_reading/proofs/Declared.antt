@@ -12,7 +12,8 @@ use Rattle.felm_lexer.specs.declared.token.Token.{Token}
 use Rattle.felm_syntax.specs.Kinds.{unsigned_number, negated, name_of}
 use Rattle.felm_syntax.specs.Grammar.{ReadsLiteral, ReadsDeclaration}
 use Rattle.felm_syntax.specs.Grammar as g
-use Rattle.felm_reading.specs.Reading.{Fault, Twice, ◌>>=◌, place, has_mark, has_word, expect, name, literal, new_name, int_input, unit_input, described, declaration}
+use Rattle.felm_syntax.specs.FirstFaults.{Fault, Twice}
+use Rattle.felm_reading.specs.Reading.{◌>>=◌, place, has_mark, has_word, expect, name, literal, new_name, int_input, unit_input, described, declaration}
 use Rattle.felm_reading.proofs.Tokens.{Took, took, TookName, took_name, TookNumber, took_number, number-is, mark_took, word_took, expect_took, name_took, numeral_took, name_read, number_read, chosen, bind_ok, ok_move, no_ok}
 
 -- the rules, over tokens that were taken

@@ -4,23 +4,25 @@ use Rattle.std.specs.Prelude.{Result, Ok, Err, Some, ◌⊎◌, if◌then◌else
 use Rattle.std.specs.List.{list_any, AllByRecursion}
 use Rattle.felm_term.specs.Inputs.{names_of}
 use Rattle.felm_term.specs.declared.input.InputDecl.{InputDecl}
-use Rattle.felm_lexer.specs.Readings.{StandInOrder}
+use Rattle.felm_lexer.specs.Readings.{Reads as Tokenizes, Whole as Tokens, StandInOrder}
 use Rattle.felm_lexer.specs.declared.kind.Symbol.TheVariants as symbol
 use Rattle.felm_lexer.specs.declared.kind.WordKind.TheVariants as word
 use Rattle.felm_lexer.specs.declared.kind.TokenKind.TheVariants as kind
 use Rattle.felm_lexer.specs.declared.token.Token.{Token}
-use Rattle.felm_syntax.specs.FirstFaults.{HasRoom, AllPass, RefusesToken, syntax, depth, twice}
-use Rattle.felm_syntax.specs.Fronts.{Part, Whole, Fronts, IsFront, Nests, Declares, NamesAgain}
+use Rattle.felm_syntax.specs.FirstFaults.{AllPass, RefusesToken, syntax, depth, twice, Fault, Syntax, Depth, Twice, place_of_fault, Declares, NamesAgain}
+use Rattle.felm_syntax.specs.Nesting.{Nests, HasRoom}
+use Rattle.felm_syntax.specs.Fronts.{Part, Whole, Fronts, IsFront}
+use Rattle.felm_syntax.specs.FirstFaults as faults
 use Rattle.felm_syntax.specs.Fronts as f
+use Rattle.felm_syntax.specs.Nesting as path
 use Rattle.felm_syntax.specs.Grammar.{IsWord, IsName, Phrase, ReadsDeclaration, ReadsProgram}
 use Rattle.felm_syntax.specs.Grammar as g
-use Rattle.felm_reading.specs.Places.{IsPlace, place_of_fault}
-use Rattle.felm_reading.specs.Reading.{Fault, Syntax, Depth, Twice, ◌>>=◌, Answer, place, has_word, starts_expr, starts_operand, starts_type, expect, described, program_in, program_after}
+use Rattle.felm_reading.specs.Reading.{◌>>=◌, Answer, place, has_word, starts_expr, starts_operand, starts_type, expect, described, program_in, program_after}
 use Rattle.felm_reading.proofs.Declared.{declaration_word, declaration_read}
 use Rattle.felm_reading.proofs.Programs.{program_step, enough}
 use Rattle.felm_reading.proofs.TypeRoom.{type_starts}
 use Rattle.felm_reading.proofs.ExprRoom.{expr_starts, operand_starts}
-use Rattle.felm_reading.proofs.Runs.{IsTail, all, skip, no_tail, IsProper, Fits, Exceeds, Stays, leaves, stops, no_front}
+use Rattle.felm_reading.proofs.Runs.{IsPlace, IsTail, all, skip, no_tail, IsProper, Fits, Exceeds, Stays, leaves, stops, no_front}
 use Rattle.felm_reading.proofs.ProgramRuns.{Parts, done, Goes, goes_same, goes_ended, goes_out, goes_refused, Again, again, Reason, program_goes}
 use Rattle.felm_reading.proofs.ProgramMeets.{Judged, judged, program_meets}
 use Rattle.felm_reading.proofs.ProgramMeets as meets
@@ -28,7 +30,7 @@ use Rattle.felm_reading.proofs.Meets.{Ended, ended_ok, ended_out, met, deep, Hea
 use Rattle.felm_reading.proofs.FrontsAre.{fronts_of, nests_of}
 use Rattle.felm_reading.proofs.Whole.{program_syntax, one_declaration, token_names}
 use Rattle.felm_reading.proofs.Distinct.{all_at}
-use Rattle.felm_reading.specs.Laws.{FirstFault, IsFirstFault}
+use Rattle.felm_reading.specs.Laws.{FirstFault}
 use Rattle.felm_lexer.proofs.Spans.{in_order}
 use Rattle.std.proofs.lemmas.List.Elements.{recursion_from_All}
 use Rattle.felm_syntax.specs.Kinds.{name_of, text_of}
@@ -48,7 +50,7 @@ now_twice at false y k h e = absurd (cc)
 
 twice_read : (text : List ℕ) (room : ℕ) (seen : List InputDecl) {ds : List InputDecl} {ts : List Token} (i n : Token) (x : List ℕ) (r : List Token) → Declares text ds ts r → r ≡ i ∷ n ∷ [] → IsWord word.Input i → IsName text x n →
     list_any (bytes_eq x) (names_of (seen ++ ds)) ≡ true → IsTwice (program_after text room seen ts)
-twice_read text room seen i n x r (f.no_more {ts}) e hi hn h =
+twice_read text room seen i n x r (faults.no_more {ts}) e hi hn h =
     let again_now : list_any (bytes_eq x) (names_of seen) ≡ true = subst (λ all. list_any (bytes_eq x) (names_of all) ≡ true) (append-nil seen) h in
     let first : has_word word.Input (i ∷ n ∷ []) ≡ true = rw hi refl in
     subst (λ us. IsTwice (program_after text room seen us)) (sym e)
@@ -58,7 +60,7 @@ twice_read text room seen i n x r (f.no_more {ts}) e hi hn h =
           ∙ now_twice n.start (list_any (bytes_eq x) (names_of seen)) (x, []) (λ y. expect text symbol.Colon y.1 >>= λ vs. described text y.0 vs)
           (λ d. program_after text room (seen ++ d.0 ∷ []) d.1) again_now,
     ))
-twice_read text room seen i n x r (f.one_first {d} {ds} {ts} {us} reads others) e hi hn h =
+twice_read text room seen i n x r (faults.one_first {d} {ds} {ts} {us} reads others) e hi hn h =
     subst IsTwice (sym (program_step text room seen ts (declaration_word reads) ∙ ap (λ a. a >>= λ d. program_after text room (seen ++ d.0 ∷ []) d.1) (declaration_read text seen reads)))
     (unless_twice (place text (drop 1 ts)) (list_any (bytes_eq d.name) (names_of seen)) (d, us) (λ d. program_after text room (seen ++ d.0 ∷ []) d.1)
     (inr (twice_read text room (seen ++ d ∷ []) i n x r others e hi hn (subst (λ all. list_any (bytes_eq x) (names_of all) ≡ true) (sym (append_assoc seen (d ∷ []) ds)) h))))
@@ -79,10 +81,10 @@ whole_some (f.whole_declaration (g.int_input _ _ _ _ _ _)) e = absurd (cc)
 whole_some (f.whole_declaration (g.unit_input _ _ _ _ _ _ _)) e = absurd (cc)
 
 no_nests : {X : Type 0} {text : List ℕ} {ps : List Part} {n : ℕ} {ts : List Token} → Nests text ps n ts → ts ≡ [] → X
-no_nests (f.token h) e = absurd (cc)
-no_nests (f.inside r d) e = no_nests d e
-no_nests (f.deeper r d) e = no_nests d e
-no_nests (f.after w d) e = whole_some w e
+no_nests (path.token h) e = absurd (cc)
+no_nests (path.inside r d) e = no_nests d e
+no_nests (path.deeper r d) e = no_nests d e
+no_nests (path.after w d) e = whole_some w e
 
 -- where two tokens begin a declaration, the second nests at the top
 second_level : {text : List ℕ} {ps : List Part} {n : ℕ} {ts : List Token} (i m : Token) → ts ≡ i ∷ m ∷ [] → Head text (f.word_of word.Input) (f.name ∷ ps) n ts → n ≡ 0
@@ -103,12 +105,12 @@ input_no_main (starts {t} {us} h) e = let none : has_word word.Input (t ∷ us) 
 
 -- the first of two tokens of a declaration
 first_two : {text : List ℕ} {n : ℕ} {ts : List Token} (i m : Token) → ts ≡ i ∷ m ∷ [] → Nests text (f.declaration ∷ f.program ∷ []) n ts → n ≡ 0
-first_two i m e (f.token h) = absurd h
-first_two i m e (f.inside f.int_input d) = second_level i m e (head refl d)
-first_two i m e (f.inside f.unit_input d) = second_level i m e (head refl d)
-first_two i m e (f.deeper r _) = elim r [ ]
-first_two i m e (f.after (f.whole_token h) _) = absurd h
-first_two i m e (f.after (f.whole_declaration r) _) = no_short i m r e
+first_two i m e (path.token h) = absurd h
+first_two i m e (path.inside f.int_input d) = second_level i m e (head refl d)
+first_two i m e (path.inside f.unit_input d) = second_level i m e (head refl d)
+first_two i m e (path.deeper r _) = elim r [ ]
+first_two i m e (path.after (f.whole_token h) _) = absurd h
+first_two i m e (path.after (f.whole_declaration r) _) = no_short i m r e
 
 -- what isn't read to its end is no front
 no_end : {X : Type 0} {text : List ℕ} {n : ℕ} (d : InputDecl) (us : List Token) {a : Answer InputDecl} → Judged text n 0 a → a ≡ Ok (d, us) → (us ≡ [] → X) → X
@@ -118,37 +120,37 @@ no_end d us (judged deep) e k = absurd (cc)
 no_end d us meets.twice e k = absurd (cc)
 
 declares_some : {X : Type 0} {text : List ℕ} {ds : List InputDecl} {ts r : List Token} (i m : Token) → Declares text ds ts r → r ≡ i ∷ m ∷ [] → ts ≡ [] → X
-declares_some i m f.no_more e h = absurd (cc)
-declares_some i m (f.one_first reads _) e h = whole_some (f.whole_declaration reads) h
+declares_some i m faults.no_more e h = absurd (cc)
+declares_some i m (faults.one_first reads _) e h = whole_some (f.whole_declaration reads) h
 
 behind_level : {text : List ℕ} {d : InputDecl} {ds : List InputDecl} {n : ℕ} {ts us r : List Token} (i m : Token) → ReadsDeclaration text ts us d → Declares text ds us r → r ≡ i ∷ m ∷ [] →
     ((k : ℕ) → Nests text (f.program ∷ []) k us → k ≡ 0) → Nests text (f.declaration ∷ f.program ∷ []) n ts → n ≡ 0
-behind_level i m reads others e level (f.token h) = absurd h
-behind_level {text} {d} {us} i m reads others e level (f.inside f.int_input k) =
+behind_level i m reads others e level (path.token h) = absurd h
+behind_level {text} {d} {us} i m reads others e level (path.inside f.int_input k) =
     no_end d us (meets.parts_judged text 0 [] _ (meets.int_meets text 0) (head refl k)) (declaration_read text [] reads) (λ none. declares_some i m others e none)
-behind_level {text} {d} {us} i m reads others e level (f.inside f.unit_input k) =
+behind_level {text} {d} {us} i m reads others e level (path.inside f.unit_input k) =
     no_end d us (meets.parts_judged text 0 [] _ (meets.unit_meets text 0) (head refl k)) (declaration_read text [] reads) (λ none. declares_some i m others e none)
-behind_level i m reads others e level (f.deeper r _) = elim r [ ]
-behind_level i m reads others e level (f.after (f.whole_token h) _) = absurd h
-behind_level {text} {n} i m reads others e level (f.after (f.whole_declaration again_read) k) =
+behind_level i m reads others e level (path.deeper r _) = elim r [ ]
+behind_level i m reads others e level (path.after (f.whole_token h) _) = absurd h
+behind_level {text} {n} i m reads others e level (path.after (f.whole_declaration again_read) k) =
     let same = one_declaration again_read reads in level n (subst (Nests text (f.program ∷ []) n) same.0 k)
 
 -- the name in a declaration nests at the top
 named_level : {text : List ℕ} {ds : List InputDecl} {n : ℕ} {ts r : List Token} (i m : Token) → Declares text ds ts r → r ≡ i ∷ m ∷ [] → IsWord word.Input i → Nests text (f.program ∷ []) n ts → n ≡ 0
-named_level i m ds e hi (f.token h) = absurd h
-named_level i m f.no_more e hi (f.inside f.declared d) = first_two i m e d
-named_level i m (f.one_first reads others) e hi (f.inside f.declared d) = behind_level i m reads others e (λ k h. named_level i m others e hi h) d
-named_level {ts} i m f.no_more e hi (f.inside f.main_is d) =
+named_level i m ds e hi (path.token h) = absurd h
+named_level i m faults.no_more e hi (path.inside f.declared d) = first_two i m e d
+named_level i m (faults.one_first reads others) e hi (path.inside f.declared d) = behind_level i m reads others e (λ k h. named_level i m others e hi h) d
+named_level {ts} i m faults.no_more e hi (path.inside f.main_is d) =
     input_no_main (starts_word d) (subst (λ us. has_word word.Input us ≡ true) (sym e) (rw hi refl))
-named_level i m (f.one_first reads _) e hi (f.inside f.main_is d) = input_no_main (starts_word d) (declaration_word reads)
-named_level i m ds e hi (f.deeper r _) = elim r [ ]
-named_level i m ds e hi (f.after w d) = no_front d refl
+named_level i m (faults.one_first reads _) e hi (path.inside f.main_is d) = input_no_main (starts_word d) (declaration_word reads)
+named_level i m ds e hi (path.deeper r _) = elim r [ ]
+named_level i m ds e hi (path.after w d) = no_front d refl
 
 -- declarations and the beginning of another one are a front
 declares_front : {text : List ℕ} {ds : List InputDecl} {ts r : List Token} (i m : Token) (x : List ℕ) → Declares text ds ts r → r ≡ i ∷ m ∷ [] → IsWord word.Input i → IsName text x m → IsFront text ts
-declares_front {text} i m x f.no_more e hi hm =
+declares_front {text} i m x faults.no_more e hi hm =
     subst (IsFront text) (sym e) (f.within f.declared (f.within f.int_input (f.behind (f.whole_token hi) (f.behind (f.whole_token (x, hm)) f.nothing))))
-declares_front i m x (f.one_first reads others) e hi hm = f.within f.declared (f.behind (f.whole_declaration reads) (declares_front i m x others e hi hm))
+declares_front i m x (faults.one_first reads others) e hi hm = f.within f.declared (f.behind (f.whole_declaration reads) (declares_front i m x others e hi hm))
 
 -- tokens in order
 order_within : (text : List ℕ) (from : ℕ) (ts : List Token) → StandInOrder text from ts → from ≤ length text
@@ -219,7 +221,7 @@ ended_front (goes_ended fits _) e k = fits_front fits
 ended_front (goes_out fits _) e k = fits_front fits
 ended_front (goes_refused {t} {r} tail at _) ended_out k = absurd (k t r tail at)
 
-ended_room : {text : List ℕ} {n limit : ℕ} {a : Answer Parts} → Judged text n limit a → Ended text a → n ≤ limit
+pub ended_room : {text : List ℕ} {n limit : ℕ} {a : Answer Parts} → Judged text n limit a → Ended text a → n ≤ limit
 ended_room (judged (met _ le)) e = le
 ended_room (judged deep) e = elim e [ ]
 ended_room meets.twice e = elim e [ ]
@@ -229,7 +231,7 @@ not_twice ended_ok e = cc
 not_twice ended_out e = cc
 
 ended_new : (text : List ℕ) (limit : ℕ) (us : List Token) → Ended text (read_of text limit us) → NamesAgain text us → ⊥
-ended_new text limit us e (f.names_again {i} {n} {x} ds hi hn h) =
+ended_new text limit us e (faults.names_again {i} {n} {x} ds hi hn h) =
     let k = twice_read text limit [] i n x (i ∷ n ∷ []) ds refl hi hn h in not_twice e (ap done k.1)
 
 pub passes : (text : List ℕ) (limit : ℕ) (us : List Token) → Ended text (read_of text limit us) → ((t : Token) (q : List Token) → IsTail us (t ∷ q) → length text ≡ t.start → ⊥) →
@@ -323,7 +325,7 @@ no_longer_front {text} limit opening t q e lt front = elim (nests_of front) as (
 -- a name that was declared
 named_again : (text : List ℕ) (limit : ℕ) {us : List Token} → Again text [] us → IsFront text us × HasRoom text limit us × NamesAgain text us
 named_again text limit (again {i} {n} {x} ds hi hn h) =
-    (declares_front i n x ds refl hi hn, λ k d. (let top = named_level i n ds refl hi d in let le : k ≤ limit = omega arith in le), f.names_again ds hi hn h)
+    (declares_front i n x ds refl hi hn, λ k d. (let top = named_level i n ds refl hi d in let le : k ≤ limit = omega arith in le), faults.names_again ds hi hn h)
 
 module _ (text : List ℕ) (limit : ℕ) (ts : List Token) (fault : Fault) (order : StandInOrder text 0 ts)
     (proper : (opening rest : List Token) (t : Token) → ts ≡ opening ++ t ∷ rest → IsProper text t) (read : read_of text limit ts ≡ Err fault) where
@@ -355,7 +357,7 @@ module _ (text : List ℕ) (limit : ℕ) (ts : List Token) (fault : Fault) (orde
     with_it : ts ≡ (front ++ t ∷ []) ++ back
     with_it = split ∙ sym (append_assoc front (t ∷ []) back)
 
-    why : Reason text limit [] fault (front ++ t ∷ []) × (read_of text limit (front ++ t ∷ []) ≡ Err fault)
+    pub why : Reason text limit [] fault (front ++ t ∷ []) × (read_of text limit (front ++ t ∷ []) ≡ Err fault)
     why =
         last_reason text limit fault (reads_beside text limit (front ++ t ∷ []) back) (subst (λ l. read_of text limit l ≡ Err fault) with_it read)
         (λ h. let k = order_behind text 0 front (t ∷ back) order_split in let le = place_from text t.end back (place_of_fault fault) k.2.3 h in absurd (omega (arith, k.2.1)))
@@ -364,20 +366,20 @@ module _ (text : List ℕ) (limit : ℕ) (ts : List Token) (fault : Fault) (orde
           | inr (r, h) ↦ (let lt = before text 0 u t r back h refl order_split in absurd (omega arith))
         ])
 
-    starts_inside : t.start < length text
+    pub starts_inside : t.start < length text
     starts_inside = let k = order_behind text 0 front (t ∷ back) order_split in starts_within text k.0 t back k.2
 
-    exact_syntax : (at : ℕ) → fault ≡ Syntax at → RefusesToken text limit syntax ts at
+    exact_syntax : (at : ℕ) → fault ≡ Syntax at → RefusesToken text limit ts (Syntax at)
     exact_syntax at is =
         let here : at ≡ t.start = subst (λ o. place_of_fault o ≡ t.start) is at_t in
         (front, t, back, split, before_pass, no_front_of limit front t (why.1 ∙ ap Err (is ∙ ap Syntax here)) starts_inside, here)
 
-    exact_depth : (at : ℕ) → fault ≡ Depth at → RefusesToken text limit depth ts at
+    exact_depth : (at : ℕ) → fault ≡ Depth at → RefusesToken text limit ts (Depth at)
     exact_depth at is =
         let deep_it : Exceeds text (f.program ∷ []) limit (front ++ t ∷ []) = subst (λ o. Reason text limit [] o (front ++ t ∷ [])) is why.0 in
         (front, t, back, split, before_pass, (fronts_of deep_it.1, deep_it), subst (λ o. place_of_fault o ≡ t.start) is at_t)
 
-    exact_twice : (at : ℕ) → fault ≡ Twice at → RefusesToken text limit twice ts at
+    exact_twice : (at : ℕ) → fault ≡ Twice at → RefusesToken text limit ts (Twice at)
     exact_twice at is =
         (front, t, back, split, before_pass, named_again text limit (subst (λ o. Reason text limit [] o (front ++ t ∷ [])) is why.0), subst (λ o. place_of_fault o ≡ t.start) is at_t)
 
@@ -385,25 +387,24 @@ module _ (text : List ℕ) (limit : ℕ) (ts : List Token) (fault : Fault) (orde
 by_fault : (text : List ℕ) (limit : ℕ) (ts : List Token) (fault : Fault) → StandInOrder text 0 ts → ((opening rest : List Token) (t : Token) → ts ≡ opening ++ t ∷ rest → IsProper text t) →
     program_after text limit [] ts ≡ Err fault → (fault ≡ Syntax (length text)) ⊎ ((t : Token) × (r : List Token) × IsTail ts (t ∷ r) × (place_of_fault fault ≡ t.start)) → IsFirstFault text limit ts fault
 by_fault text limit ts (Syntax at) order proper read (inl is) =
-    let here : at ≡ length text = cc in
-    inr ((all_pass text limit ts (Syntax at) order proper (ap done read) is, program_syntax text limit at ts read), here)
+    inr ((all_pass text limit ts (Syntax at) order proper (ap done read) is, program_syntax text limit at ts read), is)
 by_fault text limit ts (Depth at) order proper read (inl is) = absurd (cc)
 by_fault text limit ts (Twice at) order proper read (inl is) = absurd (cc)
 by_fault text limit ts (Syntax at) order proper read (inr (t, r, tail, here)) =
     let k = tail_split tail in inl (exact_syntax text limit ts (Syntax at) order proper (ap done read) k.0 t r k.1 here at refl)
 by_fault text limit ts (Depth at) order proper read (inr (t, r, tail, here)) =
-    let k = tail_split tail in exact_depth text limit ts (Depth at) order proper (ap done read) k.0 t r k.1 here at refl
+    let k = tail_split tail in inl (exact_depth text limit ts (Depth at) order proper (ap done read) k.0 t r k.1 here at refl)
 by_fault text limit ts (Twice at) order proper read (inr (t, r, tail, here)) =
-    let k = tail_split tail in exact_twice text limit ts (Twice at) order proper (ap done read) k.0 t r k.1 here at refl
+    let k = tail_split tail in inl (exact_twice text limit ts (Twice at) order proper (ap done read) k.0 t r k.1 here at refl)
+
+-- the tokens of a text have names, if they are of the kind of names
+pub proper_of : (text : List ℕ) (ts : List Token) → Tokenizes text (Tokens ts) → (opening rest : List Token) (t : Token) → ts ≡ opening ++ t ∷ rest → IsProper text t
+proper_of text ts tokenizes opening rest t e is =
+    let Named : Token → Type 0 = λ (t : Token). t.kind ≡ kind.Name → name_of text t ≡ Some (text_of text t) in
+    let named = recursion_from_All Named ts (token_names text ts tokenizes) in
+    (text_of text t, all_at Named opening t rest (subst (AllByRecursion Named) e named) is)
 
 pub first_fault : FirstFault
 first_fault text limit ts fault tokenizes read =
-    let named = recursion_from_All (λ (t : Token). t.kind ≡ kind.Name → name_of text t ≡ Some (text_of text t)) ts (token_names text ts tokenizes) in
-    by_fault text limit ts fault (in_order text ts tokenizes)
-    (λ opening rest t e is. (
-      text_of text t,
-      all_at (λ (t : Token). t.kind ≡ kind.Name → name_of text t ≡ Some (text_of text t)) opening t rest
-          (subst (AllByRecursion (λ (t : Token). t.kind ≡ kind.Name → name_of text t ≡ Some (text_of text t))) e named) is,
-    ))
-    read
+    by_fault text limit ts fault (in_order text ts tokenizes) (proper_of text ts tokenizes) read
     (stopped text limit fault (subst (λ l. Goes text limit [] ts [] (read_of text limit ts) (read_of text limit l)) (append-nil ts) (reads_beside text limit ts [])) (ap done read))

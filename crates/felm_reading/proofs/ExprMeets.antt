@@ -12,12 +12,15 @@ use Rattle.felm_syntax.specs.declared.level.Level.{Level}
 use Rattle.felm_syntax.specs.declared.level.Level.TheVariants as level
 use Rattle.felm_syntax.specs.Expression.{Expression, Expressions}
 use Rattle.felm_syntax.specs.Expression as expression
-use Rattle.felm_syntax.specs.Fronts.{Part, Nests}
+use Rattle.felm_syntax.specs.Nesting.{Nests}
+use Rattle.felm_syntax.specs.Fronts.{Part}
 use Rattle.felm_syntax.specs.Fronts as f
+use Rattle.felm_syntax.specs.Nesting as path
 use Rattle.felm_syntax.specs.Grammar.{Phrase, part}
 use Rattle.felm_syntax.specs.Grammar as g
 use Rattle.felm_syntax.specs.Kinds.{negated}
-use Rattle.felm_reading.specs.Reading.{Depth, ◌>>=◌, Answer, Deeper, Whole, Right, Arguments, place, starts_atom, starts_operand, starts_expr, refused, expect, expect_word, name, numeral, has_mark, atom, bracketed, atoms, applies, applied, lift, foldp, async_of, negative, operand, continues, product, sum, compared, cmp, conjunction, disjunction, part_of, chained, function, binding, choice, expr, type_in, reads_in}
+use Rattle.felm_syntax.specs.FirstFaults.{Depth}
+use Rattle.felm_reading.specs.Reading.{◌>>=◌, Answer, Deeper, Whole, Right, Arguments, place, starts_atom, starts_operand, starts_expr, refused, expect, expect_word, name, numeral, has_mark, atom, bracketed, atoms, applies, applied, lift, foldp, async_of, negative, operand, continues, product, sum, compared, cmp, conjunction, disjunction, part_of, chained, function, binding, choice, expr, type_in, reads_in}
 use Rattle.felm_reading.proofs.Ranks.{rank, level_rank, power}
 use Rattle.felm_reading.proofs.Tokens.{name-is, number-is, name_read, number_read}
 use Rattle.felm_reading.proofs.Firsts.{operator-rank, comparison-rank, small_rank_at, no_backslash, no_let, no_if, no_minus, no_foldp, no_async, no_lift, lift_no_minus, lift_no_foldp, lift_no_async, no_close, atom_operand, lift_operand_kind, operand_expr}
@@ -63,69 +66,69 @@ lift_starts {m} (only {t} h) = lift_operand_kind t.kind m h
 lift_starts {m} (first {n} {t} h _) = lift_operand_kind t.kind m h
 
 atom_front : {text : List ℕ} {ps : List Part} {n : ℕ} {ts : List Token} → Nests text (f.phrase g.atom ∷ ps) n ts → starts_atom ts ≡ true
-atom_front (f.token h) = absurd h
-atom_front (f.inside f.named d) = name_starts (head refl d)
-atom_front (f.inside f.numbered d) = number_starts (head refl d)
-atom_front (f.inside f.unit d) = open_starts (starts_mark d)
-atom_front (f.inside f.brackets d) = open_starts (starts_mark d)
-atom_front (f.deeper r _) = elim r [ ]
-atom_front (f.after (f.whole_token h) _) = absurd h
-atom_front (f.after (f.whole_phrase r) _) = atom_starts r
+atom_front (path.token h) = absurd h
+atom_front (path.inside f.named d) = name_starts (head refl d)
+atom_front (path.inside f.numbered d) = number_starts (head refl d)
+atom_front (path.inside f.unit d) = open_starts (starts_mark d)
+atom_front (path.inside f.brackets d) = open_starts (starts_mark d)
+atom_front (path.deeper r _) = elim r [ ]
+atom_front (path.after (f.whole_token h) _) = absurd h
+atom_front (path.after (f.whole_phrase r) _) = atom_starts r
 
 operand_front : {text : List ℕ} {p : Phrase} {ps : List Part} {n : ℕ} {ts : List Token} → Nests text (f.phrase p ∷ ps) n ts → low p ≡ true → starts_operand ts ≡ true
-operand_front (f.token h) e = absurd h
-operand_front (f.inside (f.chained {l}) d) e = operand_front d (part_low l)
-operand_front (f.inside f.compared d) e = operand_front d refl
-operand_front (f.inside f.negative d) e = minus_starts (starts_mark d)
-operand_front (f.inside f.unsigned_operand d) e = operand_front d refl
-operand_front (f.inside {ts} f.applied d) e = atom_operand ts (atom_front d)
-operand_front (f.inside f.lift d) e = lift_starts (head refl d)
-operand_front (f.inside f.foldp d) e = foldp_starts (starts_word d)
-operand_front (f.inside f.async d) e = async_starts (starts_word d)
-operand_front (f.inside {ts} f.named d) e = atom_operand ts (name_starts (head refl d))
-operand_front (f.inside {ts} f.numbered d) e = atom_operand ts (number_starts (head refl d))
-operand_front (f.inside {ts} f.unit d) e = atom_operand ts (open_starts (starts_mark d))
-operand_front (f.inside {ts} f.brackets d) e = atom_operand ts (open_starts (starts_mark d))
-operand_front (f.deeper f.function d) e = absurd (cc)
-operand_front (f.deeper f.binding d) e = absurd (cc)
-operand_front (f.deeper f.choice d) e = absurd (cc)
-operand_front (f.deeper f.plain d) e = absurd (cc)
-operand_front (f.after (f.whole_token h) _) e = absurd h
-operand_front (f.after (f.whole_phrase r) _) e = operand_starts r e
+operand_front (path.token h) e = absurd h
+operand_front (path.inside (f.chained {l}) d) e = operand_front d (part_low l)
+operand_front (path.inside f.compared d) e = operand_front d refl
+operand_front (path.inside f.negative d) e = minus_starts (starts_mark d)
+operand_front (path.inside f.unsigned_operand d) e = operand_front d refl
+operand_front (path.inside {ts} f.applied d) e = atom_operand ts (atom_front d)
+operand_front (path.inside f.lift d) e = lift_starts (head refl d)
+operand_front (path.inside f.foldp d) e = foldp_starts (starts_word d)
+operand_front (path.inside f.async d) e = async_starts (starts_word d)
+operand_front (path.inside {ts} f.named d) e = atom_operand ts (name_starts (head refl d))
+operand_front (path.inside {ts} f.numbered d) e = atom_operand ts (number_starts (head refl d))
+operand_front (path.inside {ts} f.unit d) e = atom_operand ts (open_starts (starts_mark d))
+operand_front (path.inside {ts} f.brackets d) e = atom_operand ts (open_starts (starts_mark d))
+operand_front (path.deeper f.function d) e = absurd (cc)
+operand_front (path.deeper f.binding d) e = absurd (cc)
+operand_front (path.deeper f.choice d) e = absurd (cc)
+operand_front (path.deeper f.plain d) e = absurd (cc)
+operand_front (path.after (f.whole_token h) _) e = absurd h
+operand_front (path.after (f.whole_phrase r) _) e = operand_starts r e
 
 expr_front : {text : List ℕ} {ps : List Part} {n : ℕ} {ts : List Token} → Nests text (f.phrase g.expr ∷ ps) n ts → starts_expr ts ≡ true
-expr_front (f.token h) = absurd h
-expr_front (f.inside r _) = elim r [ ]
-expr_front (f.deeper f.function d) = backslash_starts (starts_mark d)
-expr_front (f.deeper f.binding d) = let_starts (starts_word d)
-expr_front (f.deeper f.choice d) = if_starts (starts_word d)
-expr_front (f.deeper {ts} f.plain d) = operand_expr ts (operand_front d refl)
-expr_front (f.after (f.whole_token h) _) = absurd h
-expr_front (f.after (f.whole_phrase r) _) = expr_starts r
+expr_front (path.token h) = absurd h
+expr_front (path.inside r _) = elim r [ ]
+expr_front (path.deeper f.function d) = backslash_starts (starts_mark d)
+expr_front (path.deeper f.binding d) = let_starts (starts_word d)
+expr_front (path.deeper f.choice d) = if_starts (starts_word d)
+expr_front (path.deeper {ts} f.plain d) = operand_expr ts (operand_front d refl)
+expr_front (path.after (f.whole_token h) _) = absurd h
+expr_front (path.after (f.whole_phrase r) _) = expr_starts r
 
 -- what ends a phrase
 operation_rank : {text : List ℕ} {l : Level} {n : ℕ} {us : List Token} → Nests text (f.operations l ∷ []) n us → rank us ≡ level_rank l
-operation_rank (f.token h) = absurd h
-operation_rank {l} (f.inside f.operated d) = of_head (head refl d)
+operation_rank (path.token h) = absurd h
+operation_rank {l} (path.inside f.operated d) = of_head (head refl d)
   where
     of_head : {text : List ℕ} {ps : List Part} {n : ℕ} {us : List Token} → Head text (f.operator_of l) ps n us → rank us ≡ level_rank l
     of_head (only {t} (sign, h)) = operator-rank l t.kind sign h
     of_head (first {n} {t} (sign, h) _) = operator-rank l t.kind sign h
-operation_rank (f.deeper r _) = elim r [ ]
-operation_rank (f.after w d) = no_front d refl
+operation_rank (path.deeper r _) = elim r [ ]
+operation_rank (path.after w d) = no_front d refl
 
 ends_part : {text : List ℕ} (l : Level) {n : ℕ} {us : List Token} → Nests text (f.operations l ∷ []) n us → rank us < power (part l)
 ends_part l {n} {us} d = let e = operation_rank d in part_power l (rank us) (omega (arith, e))
 
 ends_sum : {text : List ℕ} {n : ℕ} {us : List Token} → Nests text (f.comparing ∷ []) n us → rank us < 4
-ends_sum (f.token h) = absurd h
-ends_sum (f.inside f.compares d) = of_head (head refl d)
+ends_sum (path.token h) = absurd h
+ends_sum (path.inside f.compares d) = of_head (head refl d)
   where
     of_head : {text : List ℕ} {ps : List Part} {n : ℕ} {us : List Token} → Head text f.comparison_sign ps n us → rank us < 4
     of_head (only {t} (sign, h)) = let e = comparison-rank t.kind sign h in omega (arith, e)
     of_head (first {n} {t} (sign, h) _) = let e = comparison-rank t.kind sign h in omega (arith, e)
-ends_sum (f.deeper r _) = elim r [ ]
-ends_sum (f.after w d) = no_front d refl
+ends_sum (path.deeper r _) = elim r [ ]
+ends_sum (path.after w d) = no_front d refl
 
 close_ends_expr : {us : List Token} → Starts (kind.Mark symbol.CloseBracket) us → rank us < 1
 close_ends_expr (starts h) = rw h (omega arith)
@@ -180,14 +183,14 @@ module _ (text : List ℕ) (room : ℕ) (meets : (d : Deeper) → Meets text (pa
 
   atom_meets : Meets text (f.phrase g.atom ∷ []) room (atom text (reads_in text room))
   unfolding atom
-  atom_meets _ _ (f.token h) = absurd h
-  atom_meets _ _ (f.inside {n} {ts} f.named d) =
+  atom_meets _ _ (path.token h) = absurd h
+  atom_meets _ _ (path.inside {n} {ts} f.named d) =
       meets_first text f.name [] room (atom text (reads_in text room)) refl
       (λ t h. (λ us. Ok (expression.Name h.0 t.start, us), λ us. rw (name-is text t h.0 h.1, h.1) refl, ended_ok, meets_none text room _)) n ts d
-  atom_meets _ _ (f.inside {n} {ts} f.numbered d) =
+  atom_meets _ _ (path.inside {n} {ts} f.numbered d) =
       meets_first text f.number [] room (atom text (reads_in text room)) refl
       (λ t h. (λ us. Ok (expression.Int h.0 t.start, us), λ us. rw (number-is t.kind h.0 h.1) refl, ended_ok, meets_none text room _)) n ts d
-  atom_meets _ _ (f.inside {n} {ts} f.unit d) =
+  atom_meets _ _ (path.inside {n} {ts} f.unit d) =
       meets_first text (f.mark symbol.OpenBracket) (f.mark symbol.CloseBracket ∷ []) room (atom text (reads_in text room)) refl
       (λ t h. (
         bracketed text (reads_in text room) t.start,
@@ -196,7 +199,7 @@ module _ (text : List ℕ) (room : ℕ) (meets : (d : Deeper) → Meets text (pa
         meets_first text (f.mark symbol.CloseBracket) [] room (bracketed text (reads_in text room) t.start) refl
             (λ c k. (λ us. Ok (expression.Unit t.start, us), λ us. bracketed_closes t.start c us k, ended_ok, meets_none text room _)),
       )) n ts d
-  atom_meets _ _ (f.inside {n} {ts} f.brackets d) =
+  atom_meets _ _ (path.inside {n} {ts} f.brackets d) =
       meets_first text (f.mark symbol.OpenBracket) (f.phrase g.expr ∷ f.mark symbol.CloseBracket ∷ []) room (atom text (reads_in text room)) refl
       (λ t h. (
         bracketed text (reads_in text room) t.start,
@@ -205,8 +208,8 @@ module _ (text : List ℕ) (room : ℕ) (meets : (d : Deeper) → Meets text (pa
         meets_is text (f.phrase g.expr ∷ f.mark symbol.CloseBracket ∷ []) room (bracketed text (reads_in text room) t.start) _
             (λ m us k. bracketed_opens t.start us (expr_front k)) enclosed_meets,
       )) n ts d
-  atom_meets _ _ (f.deeper r _) = elim r [ ]
-  atom_meets _ _ (f.after w d) = no_front d refl
+  atom_meets _ _ (path.deeper r _) = elim r [ ]
+  atom_meets _ _ (path.after w d) = no_front d refl
 
   atom_ends : Ended text (atom text (reads_in text room) [])
   unfolding atom
@@ -223,14 +226,14 @@ module _ (text : List ℕ) (room : ℕ) (meets : (d : Deeper) → Meets text (pa
 
   atoms_meet : (n : ℕ) → Meets text (f.atoms n ∷ []) room (atoms text (reads_in text room) n)
   unfolding atoms
-  atoms_meet n _ _ (f.token h) = absurd h
-  atoms_meet zero _ _ (f.inside r d) = elim r [ ]
-  atoms_meet (suc m) _ _ (f.inside {n} {ts} f.one_more d) =
+  atoms_meet n _ _ (path.token h) = absurd h
+  atoms_meet zero _ _ (path.inside r d) = elim r [ ]
+  atoms_meet (suc m) _ _ (path.inside {n} {ts} f.one_more d) =
       meets_bind text (f.phrase g.atom) (f.atoms m ∷ []) room (atom text (reads_in text room)) _ atom_meets
       (λ vs us k w e. atom_agree vs us (f.atoms m ∷ []) k w e) (λ x. ended_last text (expression.More x) (atoms_end m))
       (λ x. meets_last text (f.atoms m ∷ []) room (atoms text (reads_in text room) m) (expression.More x) (atoms_meet m)) n ts d
-  atoms_meet n _ _ (f.deeper r _) = elim r [ ]
-  atoms_meet n _ _ (f.after w d) = no_front d refl
+  atoms_meet n _ _ (path.deeper r _) = elim r [ ]
+  atoms_meet n _ _ (path.after w d) = no_front d refl
 
   -- arguments
   applies_ends : (fn : Expression) → Ended text (applies text (reads_in text room) fn [])
@@ -251,10 +254,10 @@ module _ (text : List ℕ) (room : ℕ) (meets : (d : Deeper) → Meets text (pa
       (λ x. meets (Arguments (expression.App fn x (place text ts)))) n ts d)
 
   applies_meet : (fn : Expression) → Meets text (f.arguments ∷ []) room (applies text (reads_in text room) fn)
-  applies_meet fn _ _ (f.token h) = absurd h
-  applies_meet fn _ _ (f.inside {n} {ts} f.argument d) = argument_meets fn n ts d
-  applies_meet fn _ _ (f.deeper r _) = elim r [ ]
-  applies_meet fn _ _ (f.after w d) = no_front d refl
+  applies_meet fn _ _ (path.token h) = absurd h
+  applies_meet fn _ _ (path.inside {n} {ts} f.argument d) = argument_meets fn n ts d
+  applies_meet fn _ _ (path.deeper r _) = elim r [ ]
+  applies_meet fn _ _ (path.after w d) = no_front d refl
 
   -- operands
   numeral_ends : Ended text (numeral negated text [])
@@ -324,18 +327,18 @@ module _ (text : List ℕ) (room : ℕ) (meets : (d : Deeper) → Meets text (pa
       ))
 
   app_meets : Meets text (f.phrase g.app ∷ []) room (operand text (reads_in text room))
-  app_meets _ _ (f.token h) = absurd h
-  app_meets _ _ (f.inside {n} {ts} f.applied d) = applied_meets n ts d
-  app_meets _ _ (f.inside {n} {ts} (f.lift {n = m}) d) = lift_meets m n ts d
-  app_meets _ _ (f.inside {n} {ts} f.foldp d) = foldp_meets n ts d
-  app_meets _ _ (f.inside {n} {ts} f.async d) = async_meets n ts d
-  app_meets _ _ (f.deeper r _) = elim r [ ]
-  app_meets _ _ (f.after w d) = no_front d refl
+  app_meets _ _ (path.token h) = absurd h
+  app_meets _ _ (path.inside {n} {ts} f.applied d) = applied_meets n ts d
+  app_meets _ _ (path.inside {n} {ts} (f.lift {n = m}) d) = lift_meets m n ts d
+  app_meets _ _ (path.inside {n} {ts} f.foldp d) = foldp_meets n ts d
+  app_meets _ _ (path.inside {n} {ts} f.async d) = async_meets n ts d
+  app_meets _ _ (path.deeper r _) = elim r [ ]
+  app_meets _ _ (path.after w d) = no_front d refl
 
   operand_meets : Meets text (f.phrase g.operand ∷ []) room (operand text (reads_in text room))
   unfolding operand negative
-  operand_meets _ _ (f.token h) = absurd h
-  operand_meets _ _ (f.inside {n} {ts} f.negative d) =
+  operand_meets _ _ (path.token h) = absurd h
+  operand_meets _ _ (path.inside {n} {ts} f.negative d) =
       meets_first text (f.mark symbol.Minus) (f.negated ∷ []) room (operand text (reads_in text room)) refl
       (λ t h. (
         λ us. numeral negated text us >>= λ n. Ok (expression.Int n.0 t.start, n.1),
@@ -343,9 +346,9 @@ module _ (text : List ℕ) (room : ℕ) (meets : (d : Deeper) → Meets text (pa
         ended_last text (λ n. expression.Int n t.start) numeral_ends,
         meets_last text (f.negated ∷ []) room (numeral negated text) (λ n. expression.Int n t.start) negated_meets,
       )) n ts d
-  operand_meets _ _ (f.inside {n} {ts} f.unsigned_operand d) = app_meets n ts d
-  operand_meets _ _ (f.deeper r _) = elim r [ ]
-  operand_meets _ _ (f.after w d) = no_front d refl
+  operand_meets _ _ (path.inside {n} {ts} f.unsigned_operand d) = app_meets n ts d
+  operand_meets _ _ (path.deeper r _) = elim r [ ]
+  operand_meets _ _ (path.after w d) = no_front d refl
 
   -- chains
   continues_end : (l : Level) (left : Expression) → Ended text (continues text (reads_in text room) l left [])
@@ -354,8 +357,8 @@ module _ (text : List ℕ) (room : ℕ) (meets : (d : Deeper) → Meets text (pa
 
   continues_meet : (l : Level) (left : Expression) → Meets text (f.operations l ∷ []) room (continues text (reads_in text room) l left)
   unfolding continues
-  continues_meet l left _ _ (f.token h) = absurd h
-  continues_meet l left _ _ (f.inside {n} {ts} f.operated d) =
+  continues_meet l left _ _ (path.token h) = absurd h
+  continues_meet l left _ _ (path.inside {n} {ts} f.operated d) =
       meets_first text (f.operator_of l) (f.right l ∷ []) room (continues text (reads_in text room) l left) refl
       (λ t h. (
         reads_in text room (Right l h.0 t.start left),
@@ -363,8 +366,8 @@ module _ (text : List ℕ) (room : ℕ) (meets : (d : Deeper) → Meets text (pa
         inner_ends (Right l h.0 t.start left),
         meets (Right l h.0 t.start left),
       )) n ts d
-  continues_meet l left _ _ (f.deeper r _) = elim r [ ]
-  continues_meet l left _ _ (f.after w d) = no_front d refl
+  continues_meet l left _ _ (path.deeper r _) = elim r [ ]
+  continues_meet l left _ _ (path.after w d) = no_front d refl
 
   chain_meets : (l : Level) (reader : List Token → Answer Expression) → Meets text (f.phrase (part l) ∷ []) room reader →
       ((ts us : List Token) → rank us < power (part l) → f.Whole text (f.phrase (part l)) ts us → ReadsOr (reader ts) us) →
@@ -375,11 +378,11 @@ module _ (text : List ℕ) (room : ℕ) (meets : (d : Deeper) → Meets text (pa
 
   product_meets : Meets text (f.phrase (g.chain level.Product) ∷ []) room (product text (reads_in text room))
   unfolding product
-  product_meets _ _ (f.token h) = absurd h
-  product_meets _ _ (f.inside {n} {ts} f.chained d) =
+  product_meets _ _ (path.token h) = absurd h
+  product_meets _ _ (path.inside {n} {ts} f.chained d) =
       chain_meets level.Product (operand text (reads_in text room)) operand_meets (agree text room g.operand) n ts d
-  product_meets _ _ (f.deeper r _) = elim r [ ]
-  product_meets _ _ (f.after w d) = no_front d refl
+  product_meets _ _ (path.deeper r _) = elim r [ ]
+  product_meets _ _ (path.after w d) = no_front d refl
 
   product_agree : (ts us : List Token) → rank us < 5 → f.Whole text (f.phrase (g.chain level.Product)) ts us → ReadsOr (product text (reads_in text room) ts) us
   unfolding chained
@@ -387,10 +390,10 @@ module _ (text : List ℕ) (room : ℕ) (meets : (d : Deeper) → Meets text (pa
 
   sum_meets : Meets text (f.phrase (g.chain level.Sum) ∷ []) room (sum text (reads_in text room))
   unfolding sum
-  sum_meets _ _ (f.token h) = absurd h
-  sum_meets _ _ (f.inside {n} {ts} f.chained d) = chain_meets level.Sum (product text (reads_in text room)) product_meets product_agree n ts d
-  sum_meets _ _ (f.deeper r _) = elim r [ ]
-  sum_meets _ _ (f.after w d) = no_front d refl
+  sum_meets _ _ (path.token h) = absurd h
+  sum_meets _ _ (path.inside {n} {ts} f.chained d) = chain_meets level.Sum (product text (reads_in text room)) product_meets product_agree n ts d
+  sum_meets _ _ (path.deeper r _) = elim r [ ]
+  sum_meets _ _ (path.after w d) = no_front d refl
 
   sum_agree : (ts us : List Token) → rank us < 4 → f.Whole text (f.phrase (g.chain level.Sum)) ts us → ReadsOr (sum text (reads_in text room) ts) us
   unfolding chained
@@ -406,8 +409,8 @@ module _ (text : List ℕ) (room : ℕ) (meets : (d : Deeper) → Meets text (pa
 
   compared_meets : (left : Expression) → Meets text (f.comparing ∷ []) room (compared text (reads_in text room) left)
   unfolding compared
-  compared_meets left _ _ (f.token h) = absurd h
-  compared_meets left _ _ (f.inside {n} {ts} f.compares d) =
+  compared_meets left _ _ (path.token h) = absurd h
+  compared_meets left _ _ (path.inside {n} {ts} f.compares d) =
       meets_first text f.comparison_sign (f.phrase (g.chain level.Sum) ∷ []) room (compared text (reads_in text room) left) refl
       (λ t h. (
         λ us. sum text (reads_in text room) us >>= λ b. Ok (expression.Bin h.0 left b.0 t.start, b.1),
@@ -415,24 +418,24 @@ module _ (text : List ℕ) (room : ℕ) (meets : (d : Deeper) → Meets text (pa
         ended_last text (λ b. expression.Bin h.0 left b t.start) sum_ends,
         meets_last text (f.phrase (g.chain level.Sum) ∷ []) room (sum text (reads_in text room)) (λ b. expression.Bin h.0 left b t.start) sum_meets,
       )) n ts d
-  compared_meets left _ _ (f.deeper r _) = elim r [ ]
-  compared_meets left _ _ (f.after w d) = no_front d refl
+  compared_meets left _ _ (path.deeper r _) = elim r [ ]
+  compared_meets left _ _ (path.after w d) = no_front d refl
 
   cmp_meets : Meets text (f.phrase g.cmp ∷ []) room (cmp text (reads_in text room))
   unfolding cmp
-  cmp_meets _ _ (f.token h) = absurd h
-  cmp_meets _ _ (f.inside {n} {ts} f.compared d) =
+  cmp_meets _ _ (path.token h) = absurd h
+  cmp_meets _ _ (path.inside {n} {ts} f.compared d) =
       meets_bind text (f.phrase (g.chain level.Sum)) (f.comparing ∷ []) room (sum text (reads_in text room)) (λ a. compared text (reads_in text room) a.0 a.1) sum_meets
       (λ vs us m w k. sum_agree vs us (ends_sum k) w) compared_ends compared_meets n ts d
-  cmp_meets _ _ (f.deeper r _) = elim r [ ]
-  cmp_meets _ _ (f.after w d) = no_front d refl
+  cmp_meets _ _ (path.deeper r _) = elim r [ ]
+  cmp_meets _ _ (path.after w d) = no_front d refl
 
   conjunction_meets : Meets text (f.phrase (g.chain level.And) ∷ []) room (conjunction text (reads_in text room))
   unfolding conjunction
-  conjunction_meets _ _ (f.token h) = absurd h
-  conjunction_meets _ _ (f.inside {n} {ts} f.chained d) = chain_meets level.And (cmp text (reads_in text room)) cmp_meets (agree text room g.cmp) n ts d
-  conjunction_meets _ _ (f.deeper r _) = elim r [ ]
-  conjunction_meets _ _ (f.after w d) = no_front d refl
+  conjunction_meets _ _ (path.token h) = absurd h
+  conjunction_meets _ _ (path.inside {n} {ts} f.chained d) = chain_meets level.And (cmp text (reads_in text room)) cmp_meets (agree text room g.cmp) n ts d
+  conjunction_meets _ _ (path.deeper r _) = elim r [ ]
+  conjunction_meets _ _ (path.after w d) = no_front d refl
 
   conjunction_agree : (ts us : List Token) → rank us < 2 → f.Whole text (f.phrase (g.chain level.And)) ts us → ReadsOr (conjunction text (reads_in text room) ts) us
   unfolding chained
@@ -440,10 +443,10 @@ module _ (text : List ℕ) (room : ℕ) (meets : (d : Deeper) → Meets text (pa
 
   disjunction_meets : Meets text (f.phrase (g.chain level.Or) ∷ []) room (disjunction text (reads_in text room))
   unfolding disjunction
-  disjunction_meets _ _ (f.token h) = absurd h
-  disjunction_meets _ _ (f.inside {n} {ts} f.chained d) = chain_meets level.Or (conjunction text (reads_in text room)) conjunction_meets conjunction_agree n ts d
-  disjunction_meets _ _ (f.deeper r _) = elim r [ ]
-  disjunction_meets _ _ (f.after w d) = no_front d refl
+  disjunction_meets _ _ (path.token h) = absurd h
+  disjunction_meets _ _ (path.inside {n} {ts} f.chained d) = chain_meets level.Or (conjunction text (reads_in text room)) conjunction_meets conjunction_agree n ts d
+  disjunction_meets _ _ (path.deeper r _) = elim r [ ]
+  disjunction_meets _ _ (path.after w d) = no_front d refl
 
   part_meets : (l : Level) → Meets text (f.phrase (part l) ∷ []) room (part_of text (reads_in text room) l)
   unfolding part_of
@@ -461,20 +464,20 @@ module _ (text : List ℕ) (room : ℕ) (meets : (d : Deeper) → Meets text (pa
 
   pub right_meets : (l : Level) (sign : Op) (at : ℕ) (left : Expression) → Meets text (f.right l ∷ []) (suc room)
       (λ ts. part_of text (reads_in text room) l ts >>= λ b. continues text (reads_in text room) l (expression.Bin sign left b.0 at) b.1)
-  right_meets l sign at left _ _ (f.token h) = absurd h
-  right_meets l sign at left _ _ (f.inside r _) = elim r [ ]
-  right_meets l sign at left _ _ (f.deeper {n} {ts} f.right_is d) = met_suc text n room
+  right_meets l sign at left _ _ (path.token h) = absurd h
+  right_meets l sign at left _ _ (path.inside r _) = elim r [ ]
+  right_meets l sign at left _ _ (path.deeper {n} {ts} f.right_is d) = met_suc text n room
       (meets_bind text (f.phrase (part l)) (f.operations l ∷ []) room (part_of text (reads_in text room) l)
       (λ b. continues text (reads_in text room) l (expression.Bin sign left b.0 at) b.1) (part_meets l)
       (λ vs us m w k. part_agree l vs us (ends_part l k) w) (λ x. continues_end l (expression.Bin sign left x at))
       (λ x. continues_meet l (expression.Bin sign left x at)) n ts d)
-  right_meets l sign at left _ _ (f.after w d) = no_front d refl
+  right_meets l sign at left _ _ (path.after w d) = no_front d refl
 
   pub others_meet : (fn : Expression) → Meets text (f.others ∷ []) (suc room) (applies text (reads_in text room) fn)
-  others_meet fn _ _ (f.token h) = absurd h
-  others_meet fn _ _ (f.inside r _) = elim r [ ]
-  others_meet fn _ _ (f.deeper {n} {ts} f.another d) = met_suc text n room (argument_meets fn n ts d)
-  others_meet fn _ _ (f.after w d) = no_front d refl
+  others_meet fn _ _ (path.token h) = absurd h
+  others_meet fn _ _ (path.inside r _) = elim r [ ]
+  others_meet fn _ _ (path.deeper {n} {ts} f.another d) = met_suc text n room (argument_meets fn n ts d)
+  others_meet fn _ _ (path.after w d) = no_front d refl
 
   -- whole expressions
   name_meets : Meets text (f.name ∷ []) room (name text)
@@ -578,27 +581,27 @@ module _ (text : List ℕ) (room : ℕ) (meets : (d : Deeper) → Meets text (pa
   plain_is ts s = rw (no_backslash ts s, no_let ts s, no_if ts s) refl
 
   pub expr_meets : Meets text (f.phrase g.expr ∷ []) (suc room) (expr text (reads_in text room) (type_in text room))
-  expr_meets _ _ (f.token h) = absurd h
-  expr_meets _ _ (f.inside r _) = elim r [ ]
-  expr_meets _ _ (f.deeper {n} {ts} f.function d) = met_suc text n room (function_meets n ts d)
-  expr_meets _ _ (f.deeper {n} {ts} f.binding d) = met_suc text n room (binding_meets n ts d)
-  expr_meets _ _ (f.deeper {n} {ts} f.choice d) = met_suc text n room (choice_meets n ts d)
-  expr_meets _ _ (f.deeper {n} {ts} f.plain d) = met_suc text n room
+  expr_meets _ _ (path.token h) = absurd h
+  expr_meets _ _ (path.inside r _) = elim r [ ]
+  expr_meets _ _ (path.deeper {n} {ts} f.function d) = met_suc text n room (function_meets n ts d)
+  expr_meets _ _ (path.deeper {n} {ts} f.binding d) = met_suc text n room (binding_meets n ts d)
+  expr_meets _ _ (path.deeper {n} {ts} f.choice d) = met_suc text n room (choice_meets n ts d)
+  expr_meets _ _ (path.deeper {n} {ts} f.plain d) = met_suc text n room
       (subst (Met text n room) (sym (plain_is ts (operand_front d refl))) (disjunction_meets n ts d))
-  expr_meets _ _ (f.after w d) = no_front d refl
+  expr_meets _ _ (path.after w d) = no_front d refl
 
 -- what begins what stands behind an operator or an argument
 right_front : {text : List ℕ} {l : Level} {n : ℕ} {ts : List Token} → Nests text (f.right l ∷ []) n ts → starts_operand ts ≡ true
-right_front (f.token h) = absurd h
-right_front (f.inside r _) = elim r [ ]
-right_front {l} (f.deeper f.right_is d) = operand_front d (part_low l)
-right_front (f.after w d) = no_front d refl
+right_front (path.token h) = absurd h
+right_front (path.inside r _) = elim r [ ]
+right_front {l} (path.deeper f.right_is d) = operand_front d (part_low l)
+right_front (path.after w d) = no_front d refl
 
 others_front : {text : List ℕ} {n : ℕ} {ts : List Token} → Nests text (f.others ∷ []) n ts → starts_atom ts ≡ true
-others_front (f.token h) = absurd h
-others_front (f.inside r _) = elim r [ ]
-others_front (f.deeper f.another d) = atom_front d
-others_front (f.after w d) = no_front d refl
+others_front (path.token h) = absurd h
+others_front (path.inside r _) = elim r [ ]
+others_front (path.deeper f.another d) = atom_front d
+others_front (path.after w d) = no_front d refl
 
 -- A front of what nests deeper is read to its end, if it has room.
 pub reads_meet : (text : List ℕ) (room : ℕ) (d : Deeper) → Meets text (part_for d ∷ []) room (reads_in text room d)

@@ -8,7 +8,7 @@ use Rattle.felm_syntax.specs.declared.level.Level.{Level}
 use Rattle.felm_syntax.specs.declared.level.Level.TheVariants as level
 use Rattle.felm_syntax.specs.Grammar.{Phrase, part, ReadsType, Reads, Continues, Applies, ReadsAll}
 use Rattle.felm_syntax.specs.Grammar as g
-use Rattle.felm_syntax.specs.Nesting.{type_depth, depth, depth_on, depth_args, depth_after, depth_all}
+use Rattle.felm_reading.proofs.Depths.{type_depth, depth, depth_on, depth_args, depth_after, depth_all}
 use Rattle.felm_reading.specs.Reading.{◌>>=◌, Answer, Reader, Whole, Arguments, place, starts_atom, starts_operand, starts_expr, expect, expect_word, type_in, atom, bracketed, atoms, applies, applied, lift, foldp, async_of, negative, operand, continues, product, sum, compared, cmp, conjunction, disjunction, part_of, chained, function, binding, choice, expr, reads_in}
 use Rattle.felm_reading.proofs.Ranks.{rank, kind_rank, level_rank, power}
 use Rattle.felm_reading.proofs.Tokens.{number-is, name-is, name_read, number_read}

@@ -12,8 +12,10 @@ use Rattle.felm_syntax.specs.declared.level.Level.{Level}
 use Rattle.felm_syntax.specs.declared.level.Level.TheVariants as level
 use Rattle.felm_syntax.specs.Expression.{Expression, Expressions}
 use Rattle.felm_syntax.specs.Expression as expression
-use Rattle.felm_syntax.specs.Fronts.{Part, Nests}
+use Rattle.felm_syntax.specs.Nesting.{Nests}
+use Rattle.felm_syntax.specs.Fronts.{Part}
 use Rattle.felm_syntax.specs.Fronts as f
+use Rattle.felm_syntax.specs.Nesting as path
 use Rattle.felm_syntax.specs.Grammar.{Phrase, part}
 use Rattle.felm_syntax.specs.Grammar as g
 use Rattle.felm_syntax.specs.Kinds.{is_mark, is_keyword, operator, comparison, lift_count, negated, name_of}
@@ -36,7 +38,7 @@ ReadsDeeper text room inner = (d : Deeper) → IsRead text (part_for d ∷ []) r
 
 -- a token's fit
 fits_token : {text : List ℕ} {p : Part} {ps : List Part} {room : ℕ} {t : Token} → f.IsToken text p t → Fits text (p ∷ ps) room (t ∷ [])
-fits_token {room} h = let le : 0 ≤ room = omega arith in inr (0, f.token h, le)
+fits_token {room} h = let le : 0 ≤ room = omega arith in inr (0, path.token h, le)
 
 name_whole : (text : List ℕ) (us : List Token) (x : List ℕ × List Token) → name text us ≡ Ok x → f.Whole text f.name us x.1
 name_whole text us x e = whole_of (name_took text us x e)
@@ -62,7 +64,7 @@ module _ (text : List ℕ) (room : ℕ) (inner : Reader) (reads : ReadsDeeper te
   unfolding bracketed
   bracketed_follows o h =
       token_needs text (f.phrase g.atom ∷ []) (f.phrase g.expr ∷ f.mark symbol.CloseBracket ∷ []) room o (bracketed text inner o.start) (enclosed_reads [] [])
-      (inr (0, f.inside f.unit (f.token h), zero_le room)) (bracketed_stays o.start) (λ u us more.
+      (inr (0, path.inside f.unit (path.token h), zero_le room)) (bracketed_stays o.start) (λ u us more.
       if_follows text (f.phrase g.atom ∷ []) room (o ∷ u ∷ us) more (is_mark symbol.CloseBracket u.kind) _ _ _ _
       (λ k. by_rule text room (o ∷ u ∷ us) more f.unit (token_follows text (f.mark symbol.OpenBracket) _ room o (u ∷ us) more h
       (token_follows text (f.mark symbol.CloseBracket) [] room u us more (mark-is symbol.CloseBracket u.kind k) (ok_read text [] room (expression.Unit o.start) us more))))
@@ -312,35 +314,35 @@ module _ (text : List ℕ) (room : ℕ) (inner : Reader) (reads : ReadsDeeper te
 -- what begins what nests deeper
 up_part : {text : List ℕ} (l : Level) {n : ℕ} {ts : List Token} → Nests text (f.phrase g.operand ∷ []) n ts → Nests text (f.phrase (part l) ∷ []) n ts
 up_part level.Product d = d
-up_part level.Sum d = f.inside f.chained (widen d)
-up_part level.And d = f.inside f.compared (widen (f.inside f.chained (widen (f.inside f.chained (widen d)))))
-up_part level.Or d = f.inside f.chained (widen (f.inside f.compared (widen (f.inside f.chained (widen (f.inside f.chained (widen d)))))))
+up_part level.Sum d = path.inside f.chained (widen d)
+up_part level.And d = path.inside f.compared (widen (path.inside f.chained (widen (path.inside f.chained (widen d)))))
+up_part level.Or d = path.inside f.chained (widen (path.inside f.compared (widen (path.inside f.chained (widen (path.inside f.chained (widen d)))))))
 
 operand_expr : {text : List ℕ} {n : ℕ} {ts : List Token} → Nests text (f.phrase g.operand ∷ []) n ts → Nests text (f.phrase g.expr ∷ []) (suc n) ts
-operand_expr d = f.deeper f.plain (f.inside f.chained (widen (up_part level.Or d)))
+operand_expr d = path.deeper f.plain (path.inside f.chained (widen (up_part level.Or d)))
 
 atom_operand : {text : List ℕ} {n : ℕ} {ts : List Token} → Nests text (f.phrase g.atom ∷ []) n ts → Nests text (f.phrase g.operand ∷ []) n ts
-atom_operand d = f.inside f.unsigned_operand (f.inside f.applied (widen d))
+atom_operand d = path.inside f.unsigned_operand (path.inside f.applied (widen d))
 
 atom_first : {text : List ℕ} (t : Token) (k : TokenKind) → t.kind ≡ k → IsProper text t → kind_starts_atom k ≡ true → Nests text (f.phrase g.atom ∷ []) 0 (t ∷ [])
-atom_first t kind.Name e p h = f.inside f.named (f.token (p e))
-atom_first t (kind.Int n) e p h = f.inside f.numbered (f.token (n, rw e refl))
-atom_first t (kind.Mark symbol.OpenBracket) e p h = f.inside f.unit (f.token e)
+atom_first t kind.Name e p h = path.inside f.named (path.token (p e))
+atom_first t (kind.Int n) e p h = path.inside f.numbered (path.token (n, rw e refl))
+atom_first t (kind.Mark symbol.OpenBracket) e p h = path.inside f.unit (path.token e)
 atom_first t (kind.Mark _) e p h = absurd (cc)
 atom_first t (kind.Word _) e p h = absurd (cc)
 atom_first t kind.Big e p h = absurd (cc)
 
 lift_first : {text : List ℕ} (t : Token) (n : ℕ) → lift_count t.kind ≡ Some n → Nests text (f.phrase g.operand ∷ []) 0 (t ∷ [])
-lift_first t n h = f.inside f.unsigned_operand (f.inside f.lift (f.token h))
+lift_first t n h = path.inside f.unsigned_operand (path.inside f.lift (path.token h))
 
 operand_first : {text : List ℕ} (t : Token) (k : TokenKind) → t.kind ≡ k → IsProper text t → kind_starts_operand k ≡ true → Nests text (f.phrase g.operand ∷ []) 0 (t ∷ [])
 operand_first t kind.Name e p h = atom_operand (atom_first t kind.Name e p refl)
 operand_first t (kind.Int n) e p h = atom_operand (atom_first t (kind.Int n) e p refl)
 operand_first t (kind.Mark symbol.OpenBracket) e p h = atom_operand (atom_first t (kind.Mark symbol.OpenBracket) e p refl)
-operand_first t (kind.Mark symbol.Minus) e p h = f.inside f.negative (f.token e)
+operand_first t (kind.Mark symbol.Minus) e p h = path.inside f.negative (path.token e)
 operand_first t (kind.Mark _) e p h = absurd (cc)
-operand_first t (kind.Word word.Foldp) e p h = f.inside f.unsigned_operand (f.inside f.foldp (f.token e))
-operand_first t (kind.Word word.Async) e p h = f.inside f.unsigned_operand (f.inside f.async (f.token e))
+operand_first t (kind.Word word.Foldp) e p h = path.inside f.unsigned_operand (path.inside f.foldp (path.token e))
+operand_first t (kind.Word word.Async) e p h = path.inside f.unsigned_operand (path.inside f.async (path.token e))
 operand_first t (kind.Word word.Lift1) e p h = lift_first t 1 (rw e refl)
 operand_first t (kind.Word word.Lift2) e p h = lift_first t 2 (rw e refl)
 operand_first t (kind.Word word.Lift3) e p h = lift_first t 3 (rw e refl)
@@ -354,9 +356,9 @@ operand_first t (kind.Word _) e p h = absurd (cc)
 operand_first t kind.Big e p h = absurd (cc)
 
 expr_first : {text : List ℕ} (t : Token) (k : TokenKind) → t.kind ≡ k → IsProper text t → kind_starts_expr k ≡ true → Nests text (f.phrase g.expr ∷ []) 1 (t ∷ [])
-expr_first t (kind.Mark symbol.Backslash) e p h = f.deeper f.function (f.token e)
-expr_first t (kind.Word word.Let) e p h = f.deeper f.binding (f.token e)
-expr_first t (kind.Word word.If) e p h = f.deeper f.choice (f.token e)
+expr_first t (kind.Mark symbol.Backslash) e p h = path.deeper f.function (path.token e)
+expr_first t (kind.Word word.Let) e p h = path.deeper f.binding (path.token e)
+expr_first t (kind.Word word.If) e p h = path.deeper f.choice (path.token e)
 expr_first t kind.Name e p h = operand_expr (operand_first t kind.Name e p refl)
 expr_first t (kind.Int n) e p h = operand_expr (operand_first t (kind.Int n) e p refl)
 expr_first t kind.Big e p h = absurd (cc)
@@ -389,12 +391,12 @@ reads_read text zero Whole =
 reads_read text zero (Right l sign at left) =
     needs text (f.right l ∷ []) 0 (reads_in text 0 (Right l sign at left)) refl (λ t us more.
     full_follows text (f.right l ∷ []) t us more (kind_starts_operand t.kind) (λ h e p.
-    (1, subst (λ r. Nests text (f.right l ∷ []) 1 (t ∷ r)) (sym e) (f.deeper f.right_is (widen (up_part l (operand_first t t.kind refl p h)))), one_above)))
+    (1, subst (λ r. Nests text (f.right l ∷ []) 1 (t ∷ r)) (sym e) (path.deeper f.right_is (widen (up_part l (operand_first t t.kind refl p h)))), one_above)))
 reads_read text zero (Arguments fn) =
     may_end text (f.others ∷ []) 0 fn (reads_in text 0 (Arguments fn)) refl (λ t us more.
     if_follows text (f.others ∷ []) 0 (t ∷ us) more (kind_starts_atom t.kind) _ _ _ _
     (λ h. full_follows text (f.others ∷ []) t us more true (λ _ e p.
-    (1, subst (λ r. Nests text (f.others ∷ []) 1 (t ∷ r)) (sym e) (f.deeper f.another (widen (atom_first t t.kind refl p h))), one_above)))
+    (1, subst (λ r. Nests text (f.others ∷ []) 1 (t ∷ r)) (sym e) (path.deeper f.another (widen (atom_first t t.kind refl p h))), one_above)))
     (λ _. same all))
 reads_read text (suc room) Whole =
     expr_reads text room (reads_in text room) (reads_read text room) (reads_sound text room) (type_in text room) (types_read text room) (types_sound text room)

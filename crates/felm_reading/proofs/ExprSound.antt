@@ -15,7 +15,8 @@ use Rattle.felm_term.specs.declared.op.Op.{Op}
 use Rattle.felm_lexer.specs.declared.kind.TokenKind.{TokenKind}
 use Rattle.felm_syntax.specs.Grammar.{TypePhrase, Phrase, part, ReadsType, Reads, Continues, Applies, ReadsAll}
 use Rattle.felm_syntax.specs.Grammar as g
-use Rattle.felm_reading.specs.Reading.{Syntax, ◌>>=◌, Answer, Reader, Deeper, Whole, Right, Arguments, place, has_mark, has_word, starts_atom, operator_at, comparison_at, lift_at, expect, expect_word, name, type_in, atom, bracketed, atoms, applies, applied, lift, foldp, async_of, numeral, negative, operand, continues, product, sum, compared, cmp, conjunction, disjunction, part_of, function, binding, choice, expr, reads_in}
+use Rattle.felm_syntax.specs.FirstFaults.{Syntax}
+use Rattle.felm_reading.specs.Reading.{◌>>=◌, Answer, Reader, Deeper, Whole, Right, Arguments, place, has_mark, has_word, starts_atom, operator_at, comparison_at, lift_at, expect, expect_word, name, type_in, atom, bracketed, atoms, applies, applied, lift, foldp, async_of, numeral, negative, operand, continues, product, sum, compared, cmp, conjunction, disjunction, part_of, function, binding, choice, expr, reads_in}
 use Rattle.felm_reading.proofs.Tokens.{Took, took, TookName, took_name, TookNumber, took_number, mark-is, mark_took, word_took, expect_took, expect_word_took, name_took, numeral_took, chosen, bind_ok, ok_move, no_ok}
 use Rattle.felm_reading.proofs.TypeSound.{AreTypes, types_sound}
 

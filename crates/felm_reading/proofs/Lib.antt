@@ -1,6 +1,7 @@
 pub mod Tokens
 pub mod Runs
 pub mod Ranks
+pub mod Depths
 pub mod Room
 pub mod Firsts
 pub mod TypeRoom
@@ -17,11 +18,12 @@ pub mod Programs
 pub mod Distinct
 pub mod Whole
 pub mod Sizes
-pub mod Stops
 pub mod ProgramRuns
 pub mod ProgramMeets
 pub mod FrontsAre
 pub mod Exact
 pub mod OneFault
+pub mod Complete
+pub mod Longest
 pub mod Rows
 pub mod TokenNames

@@ -11,10 +11,13 @@ use Rattle.felm_lexer.specs.declared.kind.WordKind.TheVariants as word
 use Rattle.felm_lexer.specs.declared.kind.TokenKind.{TokenKind}
 use Rattle.felm_lexer.specs.declared.kind.TokenKind.TheVariants as kind
 use Rattle.felm_lexer.specs.declared.token.Token.{Token}
-use Rattle.felm_syntax.specs.Fronts.{Part, Nest, Rule, IsToken, Whole, Nests}
+use Rattle.felm_syntax.specs.Nesting.{Nests}
+use Rattle.felm_syntax.specs.Fronts.{Part, Nest, Rule, IsToken, Whole}
 use Rattle.felm_syntax.specs.Fronts as f
+use Rattle.felm_syntax.specs.Nesting as path
 use Rattle.felm_syntax.specs.Kinds.{same_symbol, same_word}
-use Rattle.felm_reading.specs.Reading.{Syntax, Depth, ◌>>=◌, Answer, expect, expect_word}
+use Rattle.felm_syntax.specs.FirstFaults.{Syntax, Depth}
+use Rattle.felm_reading.specs.Reading.{◌>>=◌, Answer, expect, expect_word}
 use Rattle.felm_reading.proofs.Room.{IsDepth, Agrees}
 use Rattle.felm_reading.proofs.Runs.{IsRead, Follows, same, ended, out, refused, no_tail, no_front}
 
@@ -80,10 +83,10 @@ reads_or a x us depth room (inr (h, _)) = inr h
 pub meets_bind : {X Y : Type 0} (text : List ℕ) (p : Part) (ps : List Part) (room : ℕ) (g : List Token → Answer X) (k : X × List Token → Answer Y) →
     Meets text (p ∷ []) room g → ((ts us : List Token) (n : ℕ) → Whole text p ts us → Nests text ps n us → ReadsOr (g ts) us) →
     ((x : X) → Ended text (k (x, []))) → ((x : X) → Meets text ps room (λ r. k (x, r))) → Meets text (p ∷ ps) room (λ ts. g ts >>= k)
-meets_bind text p ps room g k first agree ends others _ _ (f.token {t} h) = met_bind text 0 room k ends (first 0 (t ∷ []) (f.token h))
-meets_bind text p ps room g k first agree ends others _ _ (f.inside {n} {ts} r d) = met_bind text n room k ends (first n ts (f.inside r d))
-meets_bind text p ps room g k first agree ends others _ _ (f.deeper {n} {ts} r d) = met_bind text (suc n) room k ends (first (suc n) ts (f.deeper r d))
-meets_bind text p ps room g k first agree ends others _ _ (f.after {n} {ts} {us} w d) =
+meets_bind text p ps room g k first agree ends others _ _ (path.token {t} h) = met_bind text 0 room k ends (first 0 (t ∷ []) (path.token h))
+meets_bind text p ps room g k first agree ends others _ _ (path.inside {n} {ts} r d) = met_bind text n room k ends (first n ts (path.inside r d))
+meets_bind text p ps room g k first agree ends others _ _ (path.deeper {n} {ts} r d) = met_bind text (suc n) room k ends (first (suc n) ts (path.deeper r d))
+meets_bind text p ps room g k first agree ends others _ _ (path.after {n} {ts} {us} w d) =
     elim (agree ts us n w d) as (λ _. Met text n room (g ts >>= k)) [
       | inl (x, e) ↦ subst (λ a. Met text n room (a >>= k)) (sym e) (others x n us d)
       | inr (at, e) ↦ subst (λ a. Met text n room (a >>= k)) (sym e) deep
@@ -144,14 +147,14 @@ pub data Head (text : List ℕ) (p : Part) (ps : List Part) : ℕ → List Token
   first : {n : ℕ} {t : Token} {us : List Token} → IsToken text p t → Nests text ps n us → Head text p ps n (t ∷ us)
 
 pub head : {text : List ℕ} {p : Part} {ps : List Part} {n : ℕ} {ts : List Token} → is_token p ≡ true → Nests text (p ∷ ps) n ts → Head text p ps n ts
-head e (f.token h) = only h
-head e (f.inside r d) = no_rule r e
-head e (f.deeper r d) = no_rule r e
-head e (f.after (f.whole_token h) d) = first h d
-head e (f.after (f.whole_type r) d) = absurd (cc)
-head e (f.after (f.whole_phrase r) d) = absurd (cc)
-head e (f.after (f.whole_literal r) d) = absurd (cc)
-head e (f.after (f.whole_declaration r) d) = absurd (cc)
+head e (path.token h) = only h
+head e (path.inside r d) = no_rule r e
+head e (path.deeper r d) = no_rule r e
+head e (path.after (f.whole_token h) d) = first h d
+head e (path.after (f.whole_type r) d) = absurd (cc)
+head e (path.after (f.whole_phrase r) d) = absurd (cc)
+head e (path.after (f.whole_literal r) d) = absurd (cc)
+head e (path.after (f.whole_declaration r) d) = absurd (cc)
 
 -- how a function goes on behind its first token
 abbrev pub GoesOn : {X : Type 0} → List ℕ → List Part → ℕ → (List Token → Answer X) → Token → Type 0

@@ -11,12 +11,15 @@ use Rattle.felm_lexer.specs.declared.kind.WordKind.TheVariants as word
 use Rattle.felm_lexer.specs.declared.kind.TokenKind.TheVariants as kind
 use Rattle.felm_lexer.specs.declared.token.Token.{Token}
 use Rattle.felm_syntax.specs.Expression.{Expression}
-use Rattle.felm_syntax.specs.Fronts.{Part, Nests, Declares, NamesAgain}
+use Rattle.felm_syntax.specs.Nesting.{Nests}
+use Rattle.felm_syntax.specs.Fronts.{Part}
 use Rattle.felm_syntax.specs.Fronts as f
+use Rattle.felm_syntax.specs.Nesting as path
 use Rattle.felm_syntax.specs.Grammar.{IsWord, IsName, Phrase, ReadsDeclaration}
 use Rattle.felm_syntax.specs.Grammar as g
 use Rattle.felm_syntax.specs.Kinds.{unsigned_number, negated}
-use Rattle.felm_reading.specs.Reading.{Fault, Twice, ◌>>=◌, Answer, Whole, place, has_mark, has_word, expect, expect_word, name, numeral, literal, new_name, int_input, unit_input, described, declaration, reads_in, all_of, main_of, program_after}
+use Rattle.felm_syntax.specs.FirstFaults.{Fault, Twice, Declares, NamesAgain}
+use Rattle.felm_reading.specs.Reading.{◌>>=◌, Answer, Whole, place, has_mark, has_word, expect, expect_word, name, numeral, literal, new_name, int_input, unit_input, described, declaration, reads_in, all_of, main_of, program_after}
 use Rattle.felm_reading.proofs.Tokens.{number-is, number_read}
 use Rattle.felm_reading.proofs.Declared.{if_new, new_name_read, declaration_word, declaration_read}
 use Rattle.felm_reading.proofs.Programs.{program_step, program_end}
@@ -45,8 +48,8 @@ numeral_ends text = ended_out
 
 literal_meets : (text : List ℕ) (room : ℕ) → Meets text (f.literal ∷ []) room (literal text)
 unfolding literal
-literal_meets text room _ _ (f.token h) = absurd h
-literal_meets text room _ _ (f.inside {n} {ts} f.unsigned d) =
+literal_meets text room _ _ (path.token h) = absurd h
+literal_meets text room _ _ (path.inside {n} {ts} f.unsigned d) =
     meets_first text f.number [] room (literal text) refl
     (λ t h. (λ us. Ok (h.0, us), λ us. plain t us h.0 h.1, ended_ok, meets_none text room _)) n ts d
   where
@@ -54,7 +57,7 @@ literal_meets text room _ _ (f.inside {n} {ts} f.unsigned d) =
     plain t us m h =
         let no_sign : has_mark symbol.Minus (t ∷ us) ≡ false = rw (number-is t.kind m h) refl in
         rw no_sign (number_read unsigned_number text t us m h)
-literal_meets text room _ _ (f.inside {n} {ts} f.signed d) =
+literal_meets text room _ _ (path.inside {n} {ts} f.signed d) =
     meets_first text (f.mark symbol.Minus) (f.negated ∷ []) room (literal text) refl
     (λ t h. (
       numeral negated text,
@@ -63,8 +66,8 @@ literal_meets text room _ _ (f.inside {n} {ts} f.signed d) =
       meets_first text f.negated [] room (numeral negated text) refl
           (λ u k. (λ us. Ok (k.0, us), λ us. number_read negated text u us k.0 k.1, ended_ok, meets_none text room _)),
     )) n ts d
-literal_meets text room _ _ (f.deeper r _) = elim r [ ]
-literal_meets text room _ _ (f.after w d) = no_front d refl
+literal_meets text room _ _ (path.deeper r _) = elim r [ ]
+literal_meets text room _ _ (path.after w d) = no_front d refl
 
 -- what is declared of a name
 described_ends : (text : List ℕ) (x : List ℕ) → Ended text (described text x [])
@@ -199,24 +202,24 @@ unless_program text n room at false y k h = h
 
 mutual
   pub program_meets : (text : List ℕ) (room : ℕ) (seen : List InputDecl) {n : ℕ} {ts : List Token} → Nests text (f.program ∷ []) n ts → Judged text n room (done (program_after text room seen ts))
-  program_meets text room seen (f.token h) = absurd h
-  program_meets text room seen (f.inside f.declared d) = declared_meets text room seen d
-  program_meets text room seen (f.inside {n} {ts} f.main_is d) =
+  program_meets text room seen (path.token h) = absurd h
+  program_meets text room seen (path.inside f.declared d) = declared_meets text room seen d
+  program_meets text room seen (path.inside {n} {ts} f.main_is d) =
       subst (λ a. Judged text n room (done a)) (sym (program_end text room seen ts (main_starts (starts_word d)))) (judged (main_meets text room seen n ts d))
-  program_meets text room seen (f.deeper r _) = elim r [ ]
-  program_meets text room seen (f.after w d) = no_front d refl
+  program_meets text room seen (path.deeper r _) = elim r [ ]
+  program_meets text room seen (path.after w d) = no_front d refl
 
   declared_meets : (text : List ℕ) (room : ℕ) (seen : List InputDecl) {n : ℕ} {ts : List Token} → Nests text (f.declaration ∷ f.program ∷ []) n ts → Judged text n room (done (program_after text room seen ts))
-  declared_meets text room seen (f.token h) = absurd h
-  declared_meets text room seen (f.inside {n} {ts} f.int_input d) =
+  declared_meets text room seen (path.token h) = absurd h
+  declared_meets text room seen (path.inside {n} {ts} f.int_input d) =
       subst (λ a. Judged text n room (done a)) (sym (program_step text room seen ts (input_starts (starts_word d))))
       (declared_ends text room seen n (parts_judged text room seen _ (int_meets text room) (head refl d)))
-  declared_meets text room seen (f.inside {n} {ts} f.unit_input d) =
+  declared_meets text room seen (path.inside {n} {ts} f.unit_input d) =
       subst (λ a. Judged text n room (done a)) (sym (program_step text room seen ts (input_starts (starts_word d))))
       (declared_ends text room seen n (parts_judged text room seen _ (unit_meets text room) (head refl d)))
-  declared_meets text room seen (f.deeper r _) = elim r [ ]
-  declared_meets text room seen (f.after (f.whole_token h) _) = absurd h
-  declared_meets text room seen (f.after {n} {ts} {us} (f.whole_declaration {d} r) k) =
+  declared_meets text room seen (path.deeper r _) = elim r [ ]
+  declared_meets text room seen (path.after (f.whole_token h) _) = absurd h
+  declared_meets text room seen (path.after {n} {ts} {us} (f.whole_declaration {d} r) k) =
       subst (λ a. Judged text n room (done a)) (sym (program_step text room seen ts (declaration_word r) ∙ ap (λ a. a >>= λ d. program_after text room (seen ++ d.0 ∷ []) d.1) (declaration_read text seen r)))
       (unless_program text n room (place text (drop 1 ts)) (list_any (bytes_eq d.name) (names_of seen)) (d, us) (λ d. program_after text room (seen ++ d.0 ∷ []) d.1)
       (program_meets text room (seen ++ d ∷ []) k))

@@ -10,27 +10,20 @@ use Rattle.felm_lexer.specs.declared.kind.WordKind.TheVariants as word
 use Rattle.felm_lexer.specs.declared.kind.TokenKind.TheVariants as kind
 use Rattle.felm_lexer.specs.declared.token.Token.{Token}
 use Rattle.felm_syntax.specs.Expression.{Expression}
-use Rattle.felm_syntax.specs.Fronts.{Part, Nests, Declares, NamesAgain}
+use Rattle.felm_syntax.specs.Nesting.{Nests}
+use Rattle.felm_syntax.specs.Fronts.{Part}
+use Rattle.felm_syntax.specs.FirstFaults as faults
 use Rattle.felm_syntax.specs.Fronts as f
+use Rattle.felm_syntax.specs.Nesting as path
 use Rattle.felm_syntax.specs.Grammar.{IsWord, IsName, ReadsDeclaration}
 use Rattle.felm_syntax.specs.Grammar as g
 use Rattle.felm_syntax.specs.Kinds.{is_mark, is_keyword, unsigned_number, negated, name_of}
-use Rattle.felm_reading.specs.Places.{IsPlace, place_of_fault}
-use Rattle.felm_reading.specs.Reading.{Fault, Syntax, Depth, Twice, ◌>>=◌, Answer, Whole, has_word, expect, expect_word, name, numeral, literal, new_name, int_input, unit_input, described, declaration, reads_in, all_of, main_of, program_in}
-use Rattle.felm_reading.proofs.Stops as old
+use Rattle.felm_syntax.specs.FirstFaults.{Fault, Syntax, Depth, Twice, place_of_fault, Declares, NamesAgain}
+use Rattle.felm_reading.specs.Reading.{◌>>=◌, Answer, Whole, has_word, expect, expect_word, name, numeral, literal, new_name, int_input, unit_input, described, declaration, reads_in, all_of, main_of, program_in}
 use Rattle.felm_reading.proofs.Declared.{declaration_sound}
 use Rattle.felm_reading.proofs.Tokens.{mark-is, keyword-is}
 use Rattle.felm_reading.proofs.ExprRuns.{reads_read}
-use Rattle.felm_reading.proofs.Runs.{IsTail, all, skip, tail_tail, no_tail, place_tail, place_here, to_end, IsProper, IsDeep, NoTwice, Fits, Exceeds, Stays, leaves, stops, stays_tail, Follows, same, ended, out, refused, IsRead, by_rule, last_read, ok_read, token_follows, needs, if_follows, expect_read, expect_word_read, numeral_reads, widen}
-
--- a tail by another name
-tail_of : {ts us : List Token} → old.IsTail ts us → IsTail ts us
-tail_of old.all = all
-tail_of (old.behind h) = skip (tail_of h)
-
-stays_of : {X : Type 0} {text : List ℕ} {ts : List Token} {a : Answer X} → old.Stops text old.rest ts a → Stays text ts a
-stays_of (old.goes {x} h) = leaves {x = x.0} {rest = x.1} (tail_of h)
-stays_of (old.stops {fault} h) = stops {fault = fault} h
+use Rattle.felm_reading.proofs.Runs.{IsPlace, IsTail, all, skip, tail_tail, no_tail, place_tail, place_here, to_end, IsProper, IsDeep, NoTwice, Fits, Exceeds, Stays, leaves, stops, stays_tail, stays, stays_if, Follows, same, ended, out, refused, IsRead, by_rule, last_read, ok_read, token_follows, needs, if_follows, expect_read, expect_word_read, numeral_reads, widen}
 
 -- literals
 pub literal_reads : (text : List ℕ) (room : ℕ) → IsRead text (f.literal ∷ []) room (literal text)
@@ -43,21 +36,46 @@ literal_reads text room =
     (λ _. by_rule text room (t ∷ us) more f.unsigned (numeral_reads text room f.number unsigned_number (λ u n e. (n, e)) (t ∷ us) more)))
 
 -- what is declared of a name
+int_behind : (text : List ℕ) (room : ℕ) (x : List ℕ) → IsRead text (f.mark symbol.Equals ∷ f.literal ∷ []) room
+    (λ us. expect text symbol.Equals us >>= λ vs. (literal text vs >>= λ n. Ok (record { name = x; ty = input.Int; default = n.0 }, n.1)))
+int_behind text room x =
+    expect_read text symbol.Equals (f.literal ∷ []) room _ (last_read text (f.literal ∷ []) room (literal text) (λ n. record { name = x; ty = input.Int; default = n }) (literal_reads text room))
+
 int_reads : (text : List ℕ) (room : ℕ) (x : List ℕ) (t : Token) (us more : List Token) → IsWord word.Int t →
     Follows text (f.word_of word.Int ∷ f.mark symbol.Equals ∷ f.literal ∷ []) room (t ∷ us) more (int_input text x (t ∷ us)) (int_input text x (t ∷ (us ++ more)))
 unfolding int_input
-int_reads text room x t us more h =
-    token_follows text (f.word_of word.Int) _ room t us more h
-    (expect_read text symbol.Equals (f.literal ∷ []) room _ (last_read text (f.literal ∷ []) room (literal text) (λ n. record { name = x; ty = input.Int; default = n }) (literal_reads text room)) us more)
+int_reads text room x t us more h = token_follows text (f.word_of word.Int) _ room t us more h (int_behind text room x us more)
+
+unit_behind : (text : List ℕ) (room : ℕ) (x : List ℕ) → IsRead text (f.mark symbol.Equals ∷ f.mark symbol.OpenBracket ∷ f.mark symbol.CloseBracket ∷ []) room
+    (λ us. expect text symbol.Equals us >>= λ vs. (expect text symbol.OpenBracket vs >>= λ ws. (expect text symbol.CloseBracket ws >>= λ rest.
+    Ok (record { name = x; ty = input.Unit; default = pos 0 }, rest))))
+unit_behind text room x =
+    expect_read text symbol.Equals _ room _ (expect_read text symbol.OpenBracket _ room _ (expect_read text symbol.CloseBracket [] room _
+    (ok_read text [] room (record { name = x; ty = input.Unit; default = pos 0 }))))
 
 unit_reads : (text : List ℕ) (room : ℕ) (x : List ℕ) (t : Token) (us more : List Token) → IsWord word.Unit t →
     Follows text (f.word_of word.Unit ∷ f.mark symbol.Equals ∷ f.mark symbol.OpenBracket ∷ f.mark symbol.CloseBracket ∷ []) room (t ∷ us) more
     (unit_input text x (t ∷ us)) (unit_input text x (t ∷ (us ++ more)))
 unfolding unit_input
-unit_reads text room x t us more h =
-    token_follows text (f.word_of word.Unit) _ room t us more h
-    (expect_read text symbol.Equals _ room _ (expect_read text symbol.OpenBracket _ room _ (expect_read text symbol.CloseBracket [] room _
-    (ok_read text [] room (record { name = x; ty = input.Unit; default = pos 0 })))) us more)
+unit_reads text room x t us more h = token_follows text (f.word_of word.Unit) _ room t us more h (unit_behind text room x us more)
+
+-- where reading what is declared stays
+described_stays : (text : List ℕ) (x : List ℕ) (ts : List Token) → Stays text ts (described text x ts)
+unfolding described int_input unit_input
+described_stays text x [] = stops (inr refl)
+described_stays text x (t ∷ us) =
+    stays_if text (t ∷ us) (is_keyword word.Int t.kind) _ _ (stays_tail text (skip all) (stays text (int_behind text 0 x us [])))
+    (stays_if text (t ∷ us) (is_keyword word.Unit t.kind) _ _ (stays_tail text (skip all) (stays text (unit_behind text 0 x us [])))
+    (stops (place_here text t us)))
+
+colon_stays : (text : List ℕ) (x : List ℕ) (ts : List Token) → Stays text ts (expect text symbol.Colon ts >>= λ vs. described text x vs)
+unfolding expect
+colon_stays text x [] = stops (inr refl)
+colon_stays text x (c ∷ us) =
+    elim (is_mark symbol.Colon c.kind) as (λ b. Stays text (c ∷ us) ((if b then Ok us else Err (Syntax c.start)) >>= λ vs. described text x vs)) [
+      | true ↦ stays_tail text (skip all) (described_stays text x us)
+      | false ↦ stops (place_here text c us)
+    ]
 
 -- The last token is the name in a declaration, and one of these or an earlier declaration has that name.
 pub data Again (text : List ℕ) (seen : List InputDecl) : List Token → Type 0 where
@@ -77,7 +95,7 @@ module _ (text : List ℕ) (room : ℕ) (seen : List InputDecl) (t n : Token) (x
       Follows text (f.declaration ∷ []) room (t ∷ n ∷ c ∷ us) more (described text x us) (described text x (us ++ more))
   unfolding described
   described_follows c hc [] more =
-      out (inr (0, f.inside f.int_input (f.after (f.whole_token ht) (f.after (f.whole_token (x, hn)) (f.token hc))), zero_le)) (stays_of (old.described_stops text x more))
+      out (inr (0, path.inside f.int_input (path.after (f.whole_token ht) (path.after (f.whole_token (x, hn)) (path.token hc))), zero_le)) (described_stays text x more)
   described_follows c hc (i ∷ us) more =
       if_follows text (f.declaration ∷ []) room (t ∷ n ∷ c ∷ i ∷ us) more (is_keyword word.Int i.kind) _ _ _ _
       (λ h. by_rule text room (t ∷ n ∷ c ∷ i ∷ us) more f.int_input (token_follows text (f.word_of word.Input) _ room t (n ∷ c ∷ i ∷ us) more ht
@@ -93,8 +111,8 @@ module _ (text : List ℕ) (room : ℕ) (seen : List InputDecl) (t n : Token) (x
       Follows text (f.declaration ∷ []) room (t ∷ n ∷ us) more (expect text symbol.Colon us >>= λ vs. described text x vs) (expect text symbol.Colon (us ++ more) >>= λ vs. described text x vs)
   unfolding expect
   colon_follows [] more =
-      out (inr (0, f.inside f.int_input (f.after (f.whole_token ht) (f.token (x, hn))), zero_le))
-      (stays_of (old.stops_then text old.itself old.rest _ (old.expect_stops text symbol.Colon more) (λ vs. old.described_stops text x vs)))
+      out (inr (0, path.inside f.int_input (path.after (f.whole_token ht) (path.token (x, hn))), zero_le))
+      (colon_stays text x more)
   colon_follows (c ∷ us) more =
       elim (is_mark symbol.Colon c.kind) as (λ b. is_mark symbol.Colon c.kind ≡ b → Follows text (f.declaration ∷ []) room (t ∷ n ∷ c ∷ us) more
       ((if b then Ok us else Err (Syntax c.start)) >>= λ vs. described text x vs) ((if b then Ok (us ++ more) else Err (Syntax c.start)) >>= λ vs. described text x vs)) [
@@ -111,7 +129,7 @@ module _ (text : List ℕ) (room : ℕ) (seen : List InputDecl) (t n : Token) (x
   checked_judges : (b : Bool) → list_any (bytes_eq x) (names_of seen) ≡ b → (us more : List Token) →
       Judges text room seen (t ∷ n ∷ us) more (checked b us) (checked b (us ++ more))
   checked_judges true e us more =
-      refuses (skip all) (λ z. subst (λ r. Again text seen (t ∷ n ∷ r)) (sym z) (again f.no_more ht hn (subst (λ ds. list_any (bytes_eq x) (names_of ds) ≡ true) (sym (append-nil seen)) e)))
+      refuses (skip all) (λ z. subst (λ r. Again text seen (t ∷ n ∷ r)) (sym z) (again faults.no_more ht hn (subst (λ ds. list_any (bytes_eq x) (names_of ds) ≡ true) (sym (append-nil seen)) e)))
   checked_judges false e us more = fronts (colon_follows us more)
 
 abbrev name_or : List Token → Token → Option (List ℕ) → Answer (List ℕ)
@@ -129,11 +147,26 @@ named_judges : (text : List ℕ) (room : ℕ) (seen : List InputDecl) (t n : Tok
 named_judges text room seen t n (Some x) ht hn us more = checked_judges text room seen t n x ht hn (list_any (bytes_eq x) (names_of seen)) refl us more
 named_judges text room seen t n None ht hn us more = fronts (refused (skip all) refl tt (λ d. absurd d))
 
+named_stays : (text : List ℕ) (seen : List InputDecl) (n : Token) (us : List Token) (m : Option (List ℕ)) → Stays text (n ∷ us) (if_new text seen n us m)
+named_stays text seen n us None = stops (place_here text n us)
+named_stays text seen n us (Some x) =
+    elim (list_any (bytes_eq x) (names_of seen)) as (λ b. Stays text (n ∷ us)
+    ((if b then Err (Twice n.start) else Ok (x, us)) >>= λ y. (expect text symbol.Colon y.1 >>= λ vs. described text y.0 vs))) [
+      | true ↦ stops (place_here text n us)
+      | false ↦ stays_tail text (skip all) (colon_stays text x us)
+    ]
+
+behind_input_stays : (text : List ℕ) (seen : List InputDecl) (ts : List Token) →
+    Stays text ts (new_name text seen ts >>= λ y. (expect text symbol.Colon y.1 >>= λ vs. described text y.0 vs))
+unfolding new_name name
+behind_input_stays text seen [] = stops (inr refl)
+behind_input_stays text seen (n ∷ us) = named_stays text seen n us (name_of text n)
+
 declaration_judges : (text : List ℕ) (room : ℕ) (seen : List InputDecl) (t : Token) → IsWord word.Input t → (us more : List Token) →
     Judges text room seen (t ∷ us) more (declaration text seen (t ∷ us)) (declaration text seen (t ∷ (us ++ more)))
 unfolding declaration new_name name
 declaration_judges text room seen t ht [] more =
-    let le : 0 ≤ room = omega arith in fronts (out (inr (0, f.inside f.int_input (f.token ht), le)) (stays_of (old.behind_stops text seen more)))
+    let le : 0 ≤ room = omega arith in fronts (out (inr (0, path.inside f.int_input (path.token ht), le)) (behind_input_stays text seen more))
 declaration_judges text room seen t ht (n ∷ us) more = named_judges text room seen t n (name_of text n) ht refl us more
 
 -- the expression of `main`, seen as an answer that leaves no tokens
@@ -234,21 +267,21 @@ goes_at_end e (goes_refused tail _ _) fits h = absurd (no_tail tail e refl)
 -- behind a whole declaration
 again_before : {text : List ℕ} {seen : List InputDecl} {d : InputDecl} {us r : List Token} → ReadsDeclaration text us r d → Again text (seen ++ d ∷ []) r → Again text seen us
 again_before {text} {seen} {d} reads (again {ds} {x} ds_are hi hn e) =
-    again (f.one_first reads ds_are) hi hn (subst (λ all. list_any (bytes_eq x) (names_of all) ≡ true) (append_assoc seen (d ∷ []) ds) e)
+    again (faults.one_first reads ds_are) hi hn (subst (λ all. list_any (bytes_eq x) (names_of all) ≡ true) (append_assoc seen (d ∷ []) ds) e)
 
 reason_before : (text : List ℕ) (room : ℕ) (seen : List InputDecl) (d : InputDecl) (us r : List Token) (e : Fault) → ReadsDeclaration text us r d →
     Reason text room (seen ++ d ∷ []) e r → Reason text room seen e us
 reason_before text room seen d us r (Syntax _) reads why = tt
-reason_before text room seen d us r (Depth _) reads (n, k, lt) = (n, f.inside f.declared (f.after (f.whole_declaration reads) k), lt)
+reason_before text room seen d us r (Depth _) reads (n, k, lt) = (n, path.inside f.declared (path.after (f.whole_declaration reads) k), lt)
 reason_before text room seen d us r (Twice _) reads why = again_before reads why
 
 fits_before : {text : List ℕ} {room : ℕ} {d : InputDecl} {t : Token} {us r : List Token} → ReadsDeclaration text us (t ∷ r) d → Fits text (f.program ∷ []) room (t ∷ r) → Fits text (f.program ∷ []) room us
 fits_before reads (inl e) = absurd (cc)
-fits_before reads (inr (n, k, le)) = inr (n, f.inside f.declared (f.after (f.whole_declaration reads) k), le)
+fits_before reads (inr (n, k, le)) = inr (n, path.inside f.declared (path.after (f.whole_declaration reads) k), le)
 
 fits_declaration : {text : List ℕ} {room : ℕ} {us : List Token} → Fits text (f.declaration ∷ []) room us → Fits text (f.program ∷ []) room us
 fits_declaration (inl e) = inl e
-fits_declaration (inr (n, k, le)) = inr (n, f.inside f.declared (widen k), le)
+fits_declaration (inr (n, k, le)) = inr (n, path.inside f.declared (widen k), le)
 
 goes_before : (text : List ℕ) (room : ℕ) (seen : List InputDecl) (d : InputDecl) (t : Token) (us r more : List Token) {a b : Answer Parts} → ReadsDeclaration text us (t ∷ r) d → IsTail us (t ∷ r) →
     Goes text room (seen ++ d ∷ []) (t ∷ r) more a b → Goes text room seen us more a b
@@ -270,7 +303,7 @@ behind_stays text room n seen goes (leaves {x} {rest} tail) = stays_tail text ta
 behind_stays text room n seen goes (stops {fault} h) = stops {fault = fault} h
 
 exceeds_declaration : {text : List ℕ} {room : ℕ} {us : List Token} → Exceeds text (f.declaration ∷ []) room us → Exceeds text (f.program ∷ []) room us
-exceeds_declaration (n, k, lt) = (n, f.inside f.declared (widen k), lt)
+exceeds_declaration (n, k, lt) = (n, path.inside f.declared (widen k), lt)
 
 declared_goes : (text : List ℕ) (room n : ℕ) (seen : List InputDecl) (us more : List Token) {a b : Answer InputDecl} → ((d : InputDecl) → GoesOn text room n (seen ++ d ∷ [])) →
     ((d : InputDecl) (r : List Token) → a ≡ Ok (d, r) → ReadsDeclaration text us r d) → Judges text room seen us more a b →

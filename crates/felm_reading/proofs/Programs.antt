@@ -4,7 +4,8 @@ use Rattle.std.specs.Prelude.{Result, Ok, Err, if◌then◌else◌}
 use Rattle.felm_term.specs.declared.input.InputDecl.{InputDecl}
 use Rattle.felm_lexer.specs.declared.kind.WordKind.TheVariants as word
 use Rattle.felm_lexer.specs.declared.token.Token.{Token}
-use Rattle.felm_reading.specs.Reading.{Fault, ◌>>=◌, has_word, declaration, main_of, program_in, program_after}
+use Rattle.felm_syntax.specs.FirstFaults.{Fault}
+use Rattle.felm_reading.specs.Reading.{◌>>=◌, has_word, declaration, main_of, program_in, program_after}
 use Rattle.felm_reading.proofs.Declared.{declaration_sound, shorter}
 
 -- an answer is followed alike, if what was read is followed alike

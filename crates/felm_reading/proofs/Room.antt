@@ -1,7 +1,8 @@
 -- Reading gives what the grammar says, if there is room for it.
 use Rattle.std.proofs.Common.{◌≡◌, ℕ, suc, ◌<◌, ◌≤◌, max, refl, arith, inl, inr}
 use Rattle.std.specs.Prelude.{Result, Ok, Err, ◌⊎◌}
-use Rattle.felm_reading.specs.Reading.{Fault, Depth, ◌>>=◌}
+use Rattle.felm_syntax.specs.FirstFaults.{Fault, Depth}
+use Rattle.felm_reading.specs.Reading.{◌>>=◌}
 
 abbrev pub IsDepth : {X : Type 0} → Result X Fault → Type 0
 IsDepth answer = (at : ℕ) × (answer ≡ Err (Depth at))

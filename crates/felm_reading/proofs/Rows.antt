@@ -9,7 +9,8 @@ use Rattle.felm_lexer.specs.declared.kind.TokenKind.TheVariants as kind
 use Rattle.felm_lexer.specs.declared.token.Token.{Token}
 use Rattle.felm_syntax.specs.Fronts.{IsFront}
 use Rattle.felm_syntax.specs.Kinds.{name_of}
-use Rattle.felm_reading.specs.Reading.{Syntax, program_after, program_in, declaration, described, int_input, unit_input, new_name, literal, main_of, all_of, reads_in, expr, choice, binding, function, chained, part_of, disjunction, conjunction, cmp, compared, sum, product, continues, operand, negative, applied, async_of, foldp, lift, applies, atoms, atom, bracketed, type_in, whole_type, signal_type, closed_type, numeral, name, expect_word, expect}
+use Rattle.felm_syntax.specs.FirstFaults.{Syntax}
+use Rattle.felm_reading.specs.Reading.{program_after, program_in, declaration, described, int_input, unit_input, new_name, literal, main_of, all_of, reads_in, expr, choice, binding, function, chained, part_of, disjunction, conjunction, cmp, compared, sum, product, continues, operand, negative, applied, async_of, foldp, lift, applies, atoms, atom, bracketed, type_in, whole_type, signal_type, closed_type, numeral, name, expect_word, expect}
 use Rattle.felm_reading.proofs.Exact.{read_of, no_front_of}
 
 abbrev token : TokenKind → ℕ → ℕ → Token

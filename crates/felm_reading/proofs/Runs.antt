@@ -4,19 +4,26 @@
 -- of each list of tokens: f reads the parts ps, with so much room. What it takes to the end is a front of ps in which no token nests
 -- deeper than the room, and a token that it refuses for its nesting does.
 use Rattle.std.proofs.Common.{◌≡◌, ℕ, suc, ◌<◌, ◌≤◌, refl, arith, inl, inr, List, [], ◌∷◌, ◌++◌, length, subst, sym, Bool, true, false}
+use Rattle.std.specs.List.{Any}
 use Rattle.std.specs.Prelude.{ℤ, Ok, Err, Option, Some, None, ◌⊎◌, if◌then◌else◌}
 use Rattle.felm_lexer.specs.declared.kind.Symbol.{Symbol}
 use Rattle.felm_lexer.specs.declared.kind.WordKind.{WordKind}
 use Rattle.felm_lexer.specs.declared.kind.TokenKind.{TokenKind}
 use Rattle.felm_lexer.specs.declared.kind.TokenKind.TheVariants as kind
 use Rattle.felm_lexer.specs.declared.token.Token.{Token}
-use Rattle.felm_syntax.specs.Fronts.{Part, Rule, IsToken, Whole, Nests}
+use Rattle.felm_syntax.specs.Nesting.{Nests}
+use Rattle.felm_syntax.specs.Fronts.{Part, Rule, IsToken, Whole}
 use Rattle.felm_syntax.specs.Fronts as f
+use Rattle.felm_syntax.specs.Nesting as path
 use Rattle.felm_syntax.specs.Kinds.{is_mark, is_keyword, name_of}
-use Rattle.felm_reading.specs.Places.{IsPlace, place_of_fault}
-use Rattle.felm_reading.specs.Reading.{Fault, Syntax, Depth, Twice, ◌>>=◌, Answer, place, expect, expect_word, name, numeral}
+use Rattle.felm_syntax.specs.FirstFaults.{Fault, Syntax, Depth, Twice, place_of_fault}
+use Rattle.felm_reading.specs.Reading.{◌>>=◌, Answer, place, expect, expect_word, name, numeral}
 use Rattle.felm_reading.specs.Reading.{refused as refused_fault}
 use Rattle.felm_reading.proofs.Tokens.{mark-is, keyword-is}
+
+-- a token begins at the place, or the text ends there
+abbrev pub IsPlace : List ℕ → List Token → ℕ → Type 0
+IsPlace text ts at = Any (λ t. t.start ≡ at) ts ⊎ (at ≡ length text)
 
 -- the tokens end with these
 pub data IsTail : List Token → List Token → Type 0 where
@@ -101,17 +108,17 @@ follows_map text ps qs room also us more k m (out fits h) = out (k fits) h
 follows_map text ps qs room also us more k m (refused tail at other deep) = refused tail at other (λ d e p. m (deep d e p))
 
 pub no_front : {X : Type 0} {text : List ℕ} {ps : List Part} {n : ℕ} {ts : List Token} → Nests text ps n ts → ps ≡ [] → X
-no_front (f.token h) e = absurd (cc)
-no_front (f.inside _ _) e = absurd (cc)
-no_front (f.deeper _ _) e = absurd (cc)
-no_front (f.after _ _) e = absurd (cc)
+no_front (path.token h) e = absurd (cc)
+no_front (path.inside _ _) e = absurd (cc)
+no_front (path.deeper _ _) e = absurd (cc)
+no_front (path.after _ _) e = absurd (cc)
 
 -- a front of the first part is one of all
 pub widen : {text : List ℕ} {p : Part} {ps : List Part} {n : ℕ} {ts : List Token} → Nests text (p ∷ []) n ts → Nests text (p ∷ ps) n ts
-widen (f.token h) = f.token h
-widen (f.inside r d) = f.inside r d
-widen (f.deeper r d) = f.deeper r d
-widen (f.after w d) = no_front d refl
+widen (path.token h) = path.token h
+widen (path.inside r d) = path.inside r d
+widen (path.deeper r d) = path.deeper r d
+widen (path.after w d) = no_front d refl
 
 fits_map : {text : List ℕ} {ps qs : List Part} {room : ℕ} {us : List Token} → ((n : ℕ) → Nests text ps n us → Nests text qs n us) → Fits text ps room us → Fits text qs room us
 fits_map k (inl e) = inl e
@@ -124,14 +131,14 @@ exceeds_map k (n, d, lt) = (n, k n d, lt)
 pub by_rule : {X : Type 0} (text : List ℕ) {p : Part} {ps : List Part} (room : ℕ) (us more : List Token) {a b : Answer X} → Rule f.along p ps →
     Follows text ps room us more a b → Follows text (p ∷ []) room us more a b
 by_rule text {p} {ps} room us more r h =
-    follows_map text ps (p ∷ []) room room us more (fits_map (λ n d. f.inside r d)) (exceeds_map (λ n d. f.inside r d)) h
+    follows_map text ps (p ∷ []) room room us more (fits_map (λ n d. path.inside r d)) (exceeds_map (λ n d. path.inside r d)) h
 
 deeper_fits : {text : List ℕ} {p : Part} {ps : List Part} {room : ℕ} {us : List Token} → Rule f.below p ps → Fits text ps room us → Fits text (p ∷ []) (suc room) us
 deeper_fits r (inl e) = inl e
-deeper_fits r (inr (n, d, le)) = let more : suc n ≤ suc _ = omega (arith, le) in inr (suc n, f.deeper r d, more)
+deeper_fits r (inr (n, d, le)) = let more : suc n ≤ suc _ = omega (arith, le) in inr (suc n, path.deeper r d, more)
 
 deeper_exceeds : {text : List ℕ} {p : Part} {ps : List Part} {room : ℕ} {us : List Token} → Rule f.below p ps → Exceeds text ps room us → Exceeds text (p ∷ []) (suc room) us
-deeper_exceeds {room} r (n, d, lt) = let more : suc room < suc n = omega (arith, lt) in (suc n, f.deeper r d, more)
+deeper_exceeds {room} r (n, d, lt) = let more : suc room < suc n = omega (arith, lt) in (suc n, path.deeper r d, more)
 
 pub by_deeper : {X : Type 0} (text : List ℕ) {p : Part} {ps : List Part} (room : ℕ) (us more : List Token) {a b : Answer X} → Rule f.below p ps →
     Follows text ps room us more a b → Follows text (p ∷ []) (suc room) us more a b
@@ -141,11 +148,11 @@ by_deeper text {p} {ps} room us more r h = follows_map text ps (p ∷ []) room (
 behind_fits : {text : List ℕ} {p : Part} {ps : List Part} {room : ℕ} {t : Token} {us r : List Token} → Whole text p us (t ∷ r) →
     Fits text ps room (t ∷ r) → Fits text (p ∷ ps) room us
 behind_fits w (inl e) = absurd (cc)
-behind_fits w (inr (n, d, le)) = inr (n, f.after w d, le)
+behind_fits w (inr (n, d, le)) = inr (n, path.after w d, le)
 
 pub behind_exceeds : {text : List ℕ} {p : Part} {ps : List Part} {room : ℕ} {us r : List Token} → Whole text p us r →
     Exceeds text ps room r → Exceeds text (p ∷ ps) room us
-behind_exceeds w (n, d, lt) = (n, f.after w d, lt)
+behind_exceeds w (n, d, lt) = (n, path.after w d, lt)
 
 behind : {X : Type 0} (text : List ℕ) {p : Part} {ps : List Part} (room : ℕ) {t : Token} {us r : List Token} (more : List Token) {a b : Answer X} →
     Whole text p us (t ∷ r) → IsTail us (t ∷ r) → Follows text ps room (t ∷ r) more a b → Follows text (p ∷ ps) room us more a b
@@ -221,8 +228,8 @@ last_read text ps room g h reads us more = last_follows text ps room us more h (
 -- a first token is taken
 token_fits : {text : List ℕ} {p : Part} {ps : List Part} {room : ℕ} {t : Token} {us : List Token} → IsToken text p t → Fits text ps room us → Fits text (p ∷ ps) room (t ∷ us)
 token_fits {text} {p} {ps} {room} {t} {us} h (inl e) =
-    let le : 0 ≤ room = omega arith in subst (λ r. Fits text (p ∷ ps) room (t ∷ r)) (sym e) (inr (0, f.token h, le))
-token_fits h (inr (n, d, le)) = inr (n, f.after (f.whole_token h) d, le)
+    let le : 0 ≤ room = omega arith in subst (λ r. Fits text (p ∷ ps) room (t ∷ r)) (sym e) (inr (0, path.token h, le))
+token_fits h (inr (n, d, le)) = inr (n, path.after (f.whole_token h) d, le)
 
 pub token_follows : {X : Type 0} (text : List ℕ) (p : Part) (ps : List Part) (room : ℕ) (t : Token) (us more : List Token) {a b : Answer X} → IsToken text p t →
     Follows text ps room us more a b → Follows text (p ∷ ps) room (t ∷ us) more a b

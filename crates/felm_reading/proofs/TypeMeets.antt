@@ -7,8 +7,10 @@ use Rattle.felm_lexer.specs.declared.kind.Symbol.TheVariants as symbol
 use Rattle.felm_lexer.specs.declared.kind.WordKind.TheVariants as word
 use Rattle.felm_lexer.specs.declared.kind.TokenKind.TheVariants as kind
 use Rattle.felm_lexer.specs.declared.token.Token.{Token}
-use Rattle.felm_syntax.specs.Fronts.{Part, Whole, Nests}
+use Rattle.felm_syntax.specs.Nesting.{Nests}
+use Rattle.felm_syntax.specs.Fronts.{Part, Whole}
 use Rattle.felm_syntax.specs.Fronts as f
+use Rattle.felm_syntax.specs.Nesting as path
 use Rattle.felm_syntax.specs.Grammar as g
 use Rattle.felm_reading.specs.Reading.{◌>>=◌, Answer, has_mark, has_word, starts_type, refused, expect, closed_type, signal_type, whole_type, type_in}
 use Rattle.felm_reading.proofs.Runs.{no_front}
@@ -30,28 +32,28 @@ signal_starts : {ts : List Token} → Starts (kind.Word word.Signal) ts → star
 signal_starts (starts h) = rw h refl
 
 starts_closed : {text : List ℕ} {ps : List Part} {n : ℕ} {ts : List Token} → Nests text (f.type g.closed ∷ ps) n ts → (starts_type ts ≡ true) × (has_word word.Signal ts ≡ false)
-starts_closed (f.token h) = absurd h
-starts_closed (f.inside f.int_type d) = int_starts (starts_word d)
-starts_closed (f.inside f.unit_type d) = unit_starts (starts_word d)
-starts_closed (f.inside f.type_brackets d) = open_starts (starts_mark d)
-starts_closed (f.deeper r _) = elim r [ ]
-starts_closed (f.after (f.whole_token h) _) = absurd h
-starts_closed (f.after (f.whole_type r) _) = (type_starts r, closed_is r)
+starts_closed (path.token h) = absurd h
+starts_closed (path.inside f.int_type d) = int_starts (starts_word d)
+starts_closed (path.inside f.unit_type d) = unit_starts (starts_word d)
+starts_closed (path.inside f.type_brackets d) = open_starts (starts_mark d)
+starts_closed (path.deeper r _) = elim r [ ]
+starts_closed (path.after (f.whole_token h) _) = absurd h
+starts_closed (path.after (f.whole_type r) _) = (type_starts r, closed_is r)
 
 starts_signal : {text : List ℕ} {ps : List Part} {n : ℕ} {ts : List Token} → Nests text (f.type g.signal ∷ ps) n ts → starts_type ts ≡ true
-starts_signal (f.token h) = absurd h
-starts_signal (f.inside f.signal_of d) = signal_starts (starts_word d)
-starts_signal (f.inside f.no_signal d) = let s = starts_closed d in s.0
-starts_signal (f.deeper r _) = elim r [ ]
-starts_signal (f.after (f.whole_token h) _) = absurd h
-starts_signal (f.after (f.whole_type r) _) = type_starts r
+starts_signal (path.token h) = absurd h
+starts_signal (path.inside f.signal_of d) = signal_starts (starts_word d)
+starts_signal (path.inside f.no_signal d) = let s = starts_closed d in s.0
+starts_signal (path.deeper r _) = elim r [ ]
+starts_signal (path.after (f.whole_token h) _) = absurd h
+starts_signal (path.after (f.whole_type r) _) = type_starts r
 
 starts_whole : {text : List ℕ} {ps : List Part} {n : ℕ} {ts : List Token} → Nests text (f.type g.whole ∷ ps) n ts → starts_type ts ≡ true
-starts_whole (f.token h) = absurd h
-starts_whole (f.deeper f.arrow d) = starts_signal d
-starts_whole (f.inside r _) = elim r [ ]
-starts_whole (f.after (f.whole_token h) _) = absurd h
-starts_whole (f.after (f.whole_type r) _) = type_starts r
+starts_whole (path.token h) = absurd h
+starts_whole (path.deeper f.arrow d) = starts_signal d
+starts_whole (path.inside r _) = elim r [ ]
+starts_whole (path.after (f.whole_token h) _) = absurd h
+starts_whole (path.after (f.whole_type r) _) = type_starts r
 
 -- a whole type that ends is read
 pub type_agree : (text : List ℕ) (room : ℕ) (ts us : List Token) → has_mark symbol.Arrow us ≡ false → Whole text (f.type g.whole) ts us → ReadsOr (type_in text room ts) us
@@ -81,14 +83,14 @@ module _ (text : List ℕ) (room : ℕ) (meets : Meets text (f.type g.whole ∷ 
 
   closed_meets : Meets text (f.type g.closed ∷ []) room (closed_type text (type_in text room))
   unfolding closed_type
-  closed_meets _ _ (f.token h) = absurd h
-  closed_meets _ _ (f.inside {n} {ts} f.int_type d) =
+  closed_meets _ _ (path.token h) = absurd h
+  closed_meets _ _ (path.inside {n} {ts} f.int_type d) =
       meets_first text (f.word_of word.Int) [] room (closed_type text (type_in text room)) refl
       (λ t h. (λ us. Ok (type.Int, us), λ us. rw h refl, ended_ok, meets_none text room _)) n ts d
-  closed_meets _ _ (f.inside {n} {ts} f.unit_type d) =
+  closed_meets _ _ (path.inside {n} {ts} f.unit_type d) =
       meets_first text (f.word_of word.Unit) [] room (closed_type text (type_in text room)) refl
       (λ t h. (λ us. Ok (type.Unit, us), λ us. rw h refl, ended_ok, meets_none text room _)) n ts d
-  closed_meets _ _ (f.inside {n} {ts} f.type_brackets d) =
+  closed_meets _ _ (path.inside {n} {ts} f.type_brackets d) =
       meets_first text (f.mark symbol.OpenBracket) (f.type g.whole ∷ f.mark symbol.CloseBracket ∷ []) room (closed_type text (type_in text room)) refl
       (λ t h. (
         λ us. type_in text room us >>= λ t. (expect text symbol.CloseBracket t.1 >>= λ rest. Ok (t.0, rest)),
@@ -98,8 +100,8 @@ module _ (text : List ℕ) (room : ℕ) (meets : Meets text (f.type g.whole ∷ 
             (λ vs us m w k. type_agree text room vs us (close_no_arrow (starts_mark k)) w) (λ x. close_ends text x)
             (λ x. meets_expect text symbol.CloseBracket [] room (λ rest. Ok (x, rest)) ended_ok (meets_none text room _)),
       )) n ts d
-  closed_meets _ _ (f.deeper r _) = elim r [ ]
-  closed_meets _ _ (f.after w d) = no_front d refl
+  closed_meets _ _ (path.deeper r _) = elim r [ ]
+  closed_meets _ _ (path.after w d) = no_front d refl
 
   closed_ends : Ended text (closed_type text (type_in text room) [])
   unfolding closed_type
@@ -107,8 +109,8 @@ module _ (text : List ℕ) (room : ℕ) (meets : Meets text (f.type g.whole ∷ 
 
   signal_meets : Meets text (f.type g.signal ∷ []) room (signal_type text (type_in text room))
   unfolding signal_type
-  signal_meets _ _ (f.token h) = absurd h
-  signal_meets _ _ (f.inside {n} {ts} f.signal_of d) =
+  signal_meets _ _ (path.token h) = absurd h
+  signal_meets _ _ (path.inside {n} {ts} f.signal_of d) =
       meets_first text (f.word_of word.Signal) (f.type g.closed ∷ []) room (signal_type text (type_in text room)) refl
       (λ t h. (
         λ us. closed_type text (type_in text room) us >>= λ c. Ok (type.Signal c.0, c.1),
@@ -116,15 +118,15 @@ module _ (text : List ℕ) (room : ℕ) (meets : Meets text (f.type g.whole ∷ 
         ended_last text type.Signal closed_ends,
         meets_last text (f.type g.closed ∷ []) room (closed_type text (type_in text room)) type.Signal closed_meets,
       )) n ts d
-  signal_meets _ _ (f.inside {n} {ts} f.no_signal d) =
+  signal_meets _ _ (path.inside {n} {ts} f.no_signal d) =
       let s = starts_closed d in subst (Met text n room) (sym (signal_plain text (type_in text room) ts s.1)) (closed_meets n ts d)
-  signal_meets _ _ (f.deeper r _) = elim r [ ]
-  signal_meets _ _ (f.after w d) = no_front d refl
+  signal_meets _ _ (path.deeper r _) = elim r [ ]
+  signal_meets _ _ (path.after w d) = no_front d refl
 
   arrow_meets : (x : CoreType) → Meets text (f.arrowed ∷ []) room
       (λ r. if has_mark symbol.Arrow r then (type_in text room (drop 1 r) >>= λ to. Ok (type.Arrow x to.0, to.1)) else Ok (x, r))
-  arrow_meets x _ _ (f.token h) = absurd h
-  arrow_meets x _ _ (f.inside {n} {ts} f.arrow_to d) =
+  arrow_meets x _ _ (path.token h) = absurd h
+  arrow_meets x _ _ (path.inside {n} {ts} f.arrow_to d) =
       meets_first text (f.mark symbol.Arrow) (f.type g.whole ∷ []) room
       (λ r. if has_mark symbol.Arrow r then (type_in text room (drop 1 r) >>= λ to. Ok (type.Arrow x to.0, to.1)) else Ok (x, r)) refl
       (λ t h. (
@@ -133,8 +135,8 @@ module _ (text : List ℕ) (room : ℕ) (meets : Meets text (f.type g.whole ∷ 
         ended_last text (type.Arrow x) inner_ends,
         meets_last text (f.type g.whole ∷ []) room (type_in text room) (type.Arrow x) meets,
       )) n ts d
-  arrow_meets x _ _ (f.deeper r _) = elim r [ ]
-  arrow_meets x _ _ (f.after w d) = no_front d refl
+  arrow_meets x _ _ (path.deeper r _) = elim r [ ]
+  arrow_meets x _ _ (path.after w d) = no_front d refl
 
   pub whole_meets : Meets text (f.type g.signal ∷ f.arrowed ∷ []) room (whole_type text (type_in text room))
   unfolding whole_type
@@ -145,7 +147,7 @@ module _ (text : List ℕ) (room : ℕ) (meets : Meets text (f.type g.whole ∷ 
 pub types_meet : (text : List ℕ) (room : ℕ) → Meets text (f.type g.whole ∷ []) room (type_in text room)
 unfolding type_in
 types_meet text zero n ts d = subst (λ b. Met {X = CoreType} text n 0 (Err (refused text b ts))) (sym (starts_whole d)) deep
-types_meet text (suc room) _ _ (f.token h) = absurd h
-types_meet text (suc room) _ _ (f.deeper {n} {ts} f.arrow d) = met_suc text n room (whole_meets text room (types_meet text room) n ts d)
-types_meet text (suc room) _ _ (f.inside r _) = elim r [ ]
-types_meet text (suc room) _ _ (f.after w d) = no_front d refl
+types_meet text (suc room) _ _ (path.token h) = absurd h
+types_meet text (suc room) _ _ (path.deeper {n} {ts} f.arrow d) = met_suc text n room (whole_meets text room (types_meet text room) n ts d)
+types_meet text (suc room) _ _ (path.inside r _) = elim r [ ]
+types_meet text (suc room) _ _ (path.after w d) = no_front d refl

@@ -7,7 +7,7 @@ use Rattle.felm_lexer.specs.declared.kind.WordKind.TheVariants as word
 use Rattle.felm_lexer.specs.declared.token.Token.{Token}
 use Rattle.felm_syntax.specs.Grammar.{TypePhrase, ReadsType}
 use Rattle.felm_syntax.specs.Grammar as g
-use Rattle.felm_syntax.specs.Nesting.{type_depth}
+use Rattle.felm_reading.proofs.Depths.{type_depth}
 use Rattle.felm_reading.specs.Reading.{Answer, place, has_mark, has_word, starts_type, expect, type_in, whole_type, signal_type, closed_type}
 use Rattle.felm_reading.proofs.Room.{Agrees, agrees_ok, agrees_suc, agrees_full, agrees_bind, agrees_last}
 

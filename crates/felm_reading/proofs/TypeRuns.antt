@@ -8,8 +8,10 @@ use Rattle.felm_lexer.specs.declared.kind.WordKind.TheVariants as word
 use Rattle.felm_lexer.specs.declared.kind.TokenKind.{TokenKind}
 use Rattle.felm_lexer.specs.declared.kind.TokenKind.TheVariants as kind
 use Rattle.felm_lexer.specs.declared.token.Token.{Token}
-use Rattle.felm_syntax.specs.Fronts.{Part, Nests}
+use Rattle.felm_syntax.specs.Nesting.{Nests}
+use Rattle.felm_syntax.specs.Fronts.{Part}
 use Rattle.felm_syntax.specs.Fronts as f
+use Rattle.felm_syntax.specs.Nesting as path
 use Rattle.felm_syntax.specs.Grammar as g
 use Rattle.felm_syntax.specs.Kinds.{is_mark, is_keyword}
 use Rattle.felm_reading.specs.Reading.{◌>>=◌, Answer, has_mark, starts_type, closed_type, signal_type, whole_type, type_in}
@@ -63,11 +65,11 @@ abbrev kind_starts_type : TokenKind → Bool
 kind_starts_type k = starts_type (record { kind = k; start = 0; end = 0 } ∷ [])
 
 type_first : {text : List ℕ} (t : Token) (k : TokenKind) → t.kind ≡ k → kind_starts_type k ≡ true → Nests text (f.type g.whole ∷ []) 1 (t ∷ [])
-type_first t (kind.Word word.Int) e h = f.deeper f.arrow (f.inside f.no_signal (f.inside f.int_type (f.token e)))
-type_first t (kind.Word word.Unit) e h = f.deeper f.arrow (f.inside f.no_signal (f.inside f.unit_type (f.token e)))
-type_first t (kind.Word word.Signal) e h = f.deeper f.arrow (f.inside f.signal_of (f.token e))
+type_first t (kind.Word word.Int) e h = path.deeper f.arrow (path.inside f.no_signal (path.inside f.int_type (path.token e)))
+type_first t (kind.Word word.Unit) e h = path.deeper f.arrow (path.inside f.no_signal (path.inside f.unit_type (path.token e)))
+type_first t (kind.Word word.Signal) e h = path.deeper f.arrow (path.inside f.signal_of (path.token e))
 type_first t (kind.Word _) e h = absurd (cc)
-type_first t (kind.Mark symbol.OpenBracket) e h = f.deeper f.arrow (f.inside f.no_signal (f.inside f.type_brackets (f.token e)))
+type_first t (kind.Mark symbol.OpenBracket) e h = path.deeper f.arrow (path.inside f.no_signal (path.inside f.type_brackets (path.token e)))
 type_first t (kind.Mark _) e h = absurd (cc)
 type_first t kind.Name e h = absurd (cc)
 type_first t (kind.Int _) e h = absurd (cc)

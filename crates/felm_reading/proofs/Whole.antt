@@ -13,10 +13,10 @@ use Rattle.felm_lexer.specs.declared.token.Token.{Token}
 use Rattle.felm_syntax.specs.Expression.{Expression}
 use Rattle.felm_syntax.specs.Grammar.{IsWord, IsMark, Reads, ReadsDeclaration, ReadsProgram}
 use Rattle.felm_syntax.specs.Grammar as g
-use Rattle.felm_syntax.specs.Nesting.{depth, nesting}
-use Rattle.felm_reading.specs.Reading.{Fault, Syntax, Depth, Twice, ◌>>=◌, Whole, place, has_word, expect, expect_word, reads_in, all_of, declaration, main_of, program_in, program_after}
-use Rattle.felm_reading.specs.Laws.{ProgramSound, ProgramComplete, ProgramSyntax, ProgramDepth, ProgramTwice, OneProgram}
-pub use Rattle.felm_reading.proofs.Stops.{fault_place}
+use Rattle.felm_reading.proofs.Depths.{depth, nesting}
+use Rattle.felm_syntax.specs.FirstFaults.{Fault, Syntax, Depth, Twice}
+use Rattle.felm_reading.specs.Reading.{◌>>=◌, Whole, place, has_word, expect, expect_word, reads_in, all_of, declaration, main_of, program_in, program_after}
+use Rattle.felm_reading.specs.Laws.{OneProgram}
 pub use Rattle.felm_reading.proofs.Sizes.{program_size}
 pub use Rattle.felm_reading.proofs.TokenNames.{token_names}
 use Rattle.felm_reading.proofs.Room.{Agrees, agrees_last}
@@ -151,43 +151,30 @@ program_judged text room seen (g.main_is {t} {e} {ts} {main} ht he d) =
     rw (program_end text room seen (t ∷ e ∷ ts) no_input) (inl (agrees_last (main_of text room (t ∷ e ∷ ts)) _ main (seen ++ [], main) _ room
     (main_agrees text room t e ht he d) (rw none refl)))
 
-pub program_complete : ProgramComplete
-program_complete text limit ts ds main r distinct le = elim (program_judged text limit [] r) as (λ _. program_after text limit [] ts ≡ Ok (ds, main)) [
-  | inl a ↦ room_read (program_after text limit [] ts) (ds, main) (nesting r) limit le a
-  | inr (h, twice) ↦ absurd (twice distinct)
-]
-
-pub program_sound : ProgramSound
+-- what is read is a program by the grammar, with distinct names
+pub program_read : (text : List ℕ) (limit : ℕ) (ts : List Token) (ds : List InputDecl) (main : Expression) → program_after text limit [] ts ≡ Ok (ds, main) →
+    ReadsProgram text ts ds main × IsDistinct bytes_eq (names_of ds)
 unfolding program_after IsDistinct
-program_sound text limit ts ds main h =
+program_read text limit ts ds main h =
     let after = after_sound text limit (length ts) [] ts (ds, main) h in
-    let r : ReadsProgram text ts ds main = subst (λ all. ReadsProgram text ts all main) (sym after.2) after.1 in
-    let le : nesting r ≤ limit = elim (program_judged text limit [] r) as (λ _. nesting r ≤ limit) [
-      | inl (inl (k, within)) ↦ within
-      | inl (inr ((at, k), above)) ↦ absurd (not_both (program_after text limit [] ts) (ds, main) (Depth at) h k)
-      | inr ((at, k), twice) ↦ absurd (not_both (program_after text limit [] ts) (ds, main) (Twice at) h k)
-    ] in
-    (r, after.3 tt, le)
+    (subst (λ all. ReadsProgram text ts all main) (sym after.2) after.1, after.3 tt)
 
 -- the faults are told apart
 other_fault : {X : Type 0} (answer : Result X Fault) (one other : Fault) → answer ≡ Err one → answer ≡ Err other → one ≡ other
 other_fault answer one other h k = cc
 
-pub program_syntax : ProgramSyntax
+-- where reading stops at a token that can't stand there, the grammar reads the tokens as no program
+pub program_syntax : (text : List ℕ) (limit at : ℕ) (ts : List Token) → program_after text limit [] ts ≡ Err (Syntax at) →
+    (ds : List InputDecl) (main : Expression) → ReadsProgram text ts ds main → ⊥
 program_syntax text limit at ts h ds main r = elim (program_judged text limit [] r) as (λ _. ⊥) [
   | inl (inl (k, within)) ↦ not_both (program_after text limit [] ts) (ds, main) (Syntax at) k h
   | inl (inr ((p, k), above)) ↦ (let same = other_fault (program_after text limit [] ts) (Syntax at) (Depth p) h k in cc)
   | inr ((p, k), twice) ↦ (let same = other_fault (program_after text limit [] ts) (Syntax at) (Twice p) h k in cc)
 ]
 
-pub program_depth : ProgramDepth
-program_depth text limit at ts h ds main r = elim (program_judged text limit [] r) as (λ _. limit < nesting r) [
-  | inl (inl (k, within)) ↦ absurd (not_both (program_after text limit [] ts) (ds, main) (Depth at) k h)
-  | inl (inr (k, above)) ↦ above
-  | inr ((p, k), twice) ↦ (let same = other_fault (program_after text limit [] ts) (Depth at) (Twice p) h k in cc)
-]
-
-pub program_twice : ProgramTwice
+-- where reading stops at a name that was declared, no reading has distinct names
+pub program_twice : (text : List ℕ) (limit at : ℕ) (ts : List Token) → program_after text limit [] ts ≡ Err (Twice at) →
+    (ds : List InputDecl) (main : Expression) → ReadsProgram text ts ds main → IsDistinct bytes_eq (names_of ds) → ⊥
 program_twice text limit at ts h ds main r distinct = elim (program_judged text limit [] r) as (λ _. ⊥) [
   | inl (inl (k, within)) ↦ not_both (program_after text limit [] ts) (ds, main) (Twice at) k h
   | inl (inr ((p, k), above)) ↦ (let same = other_fault (program_after text limit [] ts) (Twice at) (Depth p) h k in cc)

@@ -1,10 +1,9 @@
 -- Fronts: the lists of tokens with which a phrase may begin.
 --
--- The rules of the grammar stand here part by part. A front of a phrase is empty, or goes into one of its rules: some whole
--- first parts in order, which may be none, and then a front of the part that stands next.
-use Rattle.std.specs.Prelude.{◌≡◌, ℕ, zero, suc, ℤ, List, [], ◌∷◌, Some, true, bytes_eq}
-use Rattle.std.specs.List.{list_any}
-use Rattle.felm_term.specs.Inputs.{names_of}
+-- The rules of the grammar stand here by their parts. A front of a phrase is empty, or the whole phrase, or it goes into one
+-- of its rules: some whole first parts in order, which may be none, and then a front of the part that stands next. What may
+-- be left out or repeated is a part of its own, so any number of whole repeats may stand before that next part.
+use Rattle.std.specs.Prelude.{◌≡◌, ℕ, suc, ℤ, List, [], ◌∷◌, Some}
 use Rattle.felm_term.specs.CoreType.{CoreType}
 use Rattle.felm_term.specs.declared.op.Op.{Op}
 use Rattle.felm_term.specs.declared.input.InputDecl.{InputDecl}
@@ -58,25 +57,15 @@ IsToken text negated t = (n : ℤ) × IsNegated n t
 IsToken text (operator_of l) t = (sign : Op) × (operator l t.kind ≡ Some sign)
 IsToken text comparison_sign t = (sign : Op) × (comparison t.kind ≡ Some sign)
 IsToken text (lift_of n) t = lift_count t.kind ≡ Some n
-IsToken text (type _) t = ⊥
-IsToken text (phrase _) t = ⊥
-IsToken text literal t = ⊥
-IsToken text declaration t = ⊥
-IsToken text program t = ⊥
-IsToken text arrowed t = ⊥
-IsToken text (operations _) t = ⊥
-IsToken text comparing t = ⊥
-IsToken text arguments t = ⊥
-IsToken text (right _) t = ⊥
-IsToken text others t = ⊥
-IsToken text (atoms _) t = ⊥
+IsToken text _ t = ⊥
 
--- whether what stands in a part nests deeper by one
+-- whether what stands in a phrase by a rule nests as the phrase does, or deeper by one
 pub data Nest : Type 0 where
   along : Nest
   below : Nest
 
--- the rules, by their parts in order
+-- The rules, by their parts in order. What stands in an `expr` or a `type` nests deeper, and so does what stands behind an
+-- operator of a chain or behind an argument.
 pub data Rule : Nest → Part → List Part → Type 0 where
   -- program = { decl } "main" "=" expr
   declared : Rule along program (declaration ∷ program ∷ [])
@@ -135,35 +124,17 @@ pub data Whole (text : List ℕ) : Part → List Token → List Token → Type 0
   whole_literal : {ts rest : List Token} {n : ℤ} → ReadsLiteral ts rest n → Whole text literal ts rest
   whole_declaration : {ts rest : List Token} {d : InputDecl} → ReadsDeclaration text ts rest d → Whole text declaration ts rest
 
--- The tokens, all of them, are a front of these parts in order.
+-- The tokens, all of them, are a front of these parts in order: of the first part, or of others behind it.
 pub data Fronts (text : List ℕ) : List Part → List Token → Type 0 where
+  -- no tokens are a front
   nothing : {ps : List Part} → Fronts text ps []
+  -- a front of a rule's parts is one of its phrase
   within : {nest : Nest} {p : Part} {parts ps : List Part} {ts : List Token} →
       Rule nest p parts → Fronts text parts ts → Fronts text (p ∷ ps) ts
+  -- a whole part, and then a front of what stands next
   behind : {p : Part} {ps : List Part} {ts us : List Token} →
       Whole text p ts us → Fronts text ps us → Fronts text (p ∷ ps) ts
 
 -- The tokens are a front of a program.
 abbrev pub IsFront : List ℕ → List Token → Type 0
 IsFront text ts = Fronts text (program ∷ []) ts
-
--- The tokens are a front of these parts in order, and the last of them nests so much deeper than the parts.
-pub data Nests (text : List ℕ) : List Part → ℕ → List Token → Type 0 where
-  token : {p : Part} {ps : List Part} {t : Token} → IsToken text p t → Nests text (p ∷ ps) 0 (t ∷ [])
-  inside : {p : Part} {parts ps : List Part} {n : ℕ} {ts : List Token} →
-      Rule along p parts → Nests text parts n ts → Nests text (p ∷ ps) n ts
-  deeper : {p : Part} {parts ps : List Part} {n : ℕ} {ts : List Token} →
-      Rule below p parts → Nests text parts n ts → Nests text (p ∷ ps) (suc n) ts
-  after : {p : Part} {ps : List Part} {n : ℕ} {ts us : List Token} →
-      Whole text p ts us → Nests text ps n us → Nests text (p ∷ ps) n ts
-
--- the tokens begin with these whole declarations, and the rest follows them
-pub data Declares (text : List ℕ) : List InputDecl → List Token → List Token → Type 0 where
-  no_more : {ts : List Token} → Declares text [] ts ts
-  one_first : {d : InputDecl} {ds : List InputDecl} {ts us rest : List Token} →
-      ReadsDeclaration text ts us d → Declares text ds us rest → Declares text (d ∷ ds) ts rest
-
--- The last of the tokens is the name in a declaration, and an earlier declaration has that name.
-pub data NamesAgain (text : List ℕ) : List Token → Type 0 where
-  names_again : {ds : List InputDecl} {ts : List Token} {i n : Token} {x : List ℕ} → Declares text ds ts (i ∷ n ∷ []) →
-      IsWord word.Input i → IsName text x n → list_any (bytes_eq x) (names_of ds) ≡ true → NamesAgain text ts
