@@ -9,7 +9,7 @@ use Rattle.felm_lexer.specs.declared.kind.Symbol.TheVariants as symbol
 use Rattle.felm_lexer.specs.declared.kind.WordKind.TheVariants as word
 use Rattle.felm_lexer.specs.declared.kind.TokenKind.TheVariants as kind
 use Rattle.felm_lexer.specs.declared.token.Token.{Token}
-use Rattle.felm_syntax.specs.FirstFaults.{AllPass, RefusesToken, syntax, depth, twice, Fault, Syntax, Depth, Twice, place_of_fault, Declares, NamesAgain}
+use Rattle.felm_syntax.specs.FirstFaults.{Fault, Syntax, Depth, Twice, place_of_fault, Declares, NamesAgain, AllPass, RefusesToken, IsFirstFault}
 use Rattle.felm_syntax.specs.Nesting.{Nests, HasRoom}
 use Rattle.felm_syntax.specs.Fronts.{Part, Whole, Fronts, IsFront}
 use Rattle.felm_syntax.specs.FirstFaults as faults

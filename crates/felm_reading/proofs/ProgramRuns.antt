@@ -36,7 +36,7 @@ literal_reads text room =
     (λ _. by_rule text room (t ∷ us) more f.unsigned (numeral_reads text room f.number unsigned_number (λ u n e. (n, e)) (t ∷ us) more)))
 
 -- what is declared of a name
-int_behind : (text : List ℕ) (room : ℕ) (x : List ℕ) → IsRead text (f.mark symbol.Equals ∷ f.literal ∷ []) room
+int_behind : (text : List ℕ) (room : ℕ) (x : List ℕ) → IsRead {X = InputDecl} text (f.mark symbol.Equals ∷ f.literal ∷ []) room
     (λ us. expect text symbol.Equals us >>= λ vs. (literal text vs >>= λ n. Ok (record { name = x; ty = input.Int; default = n.0 }, n.1)))
 int_behind text room x =
     expect_read text symbol.Equals (f.literal ∷ []) room _ (last_read text (f.literal ∷ []) room (literal text) (λ n. record { name = x; ty = input.Int; default = n }) (literal_reads text room))
@@ -46,7 +46,7 @@ int_reads : (text : List ℕ) (room : ℕ) (x : List ℕ) (t : Token) (us more :
 unfolding int_input
 int_reads text room x t us more h = token_follows text (f.word_of word.Int) _ room t us more h (int_behind text room x us more)
 
-unit_behind : (text : List ℕ) (room : ℕ) (x : List ℕ) → IsRead text (f.mark symbol.Equals ∷ f.mark symbol.OpenBracket ∷ f.mark symbol.CloseBracket ∷ []) room
+unit_behind : (text : List ℕ) (room : ℕ) (x : List ℕ) → IsRead {X = InputDecl} text (f.mark symbol.Equals ∷ f.mark symbol.OpenBracket ∷ f.mark symbol.CloseBracket ∷ []) room
     (λ us. expect text symbol.Equals us >>= λ vs. (expect text symbol.OpenBracket vs >>= λ ws. (expect text symbol.CloseBracket ws >>= λ rest.
     Ok (record { name = x; ty = input.Unit; default = pos 0 }, rest))))
 unit_behind text room x =
@@ -147,11 +147,13 @@ named_judges : (text : List ℕ) (room : ℕ) (seen : List InputDecl) (t n : Tok
 named_judges text room seen t n (Some x) ht hn us more = checked_judges text room seen t n x ht hn (list_any (bytes_eq x) (names_of seen)) refl us more
 named_judges text room seen t n None ht hn us more = fronts (refused (skip all) refl tt (λ d. absurd d))
 
+abbrev new_or : Token → List ℕ → List Token → Bool → Answer (List ℕ)
+new_or n x us b = if b then Err (Twice n.start) else Ok (x, us)
+
 named_stays : (text : List ℕ) (seen : List InputDecl) (n : Token) (us : List Token) (m : Option (List ℕ)) → Stays text (n ∷ us) (if_new text seen n us m)
 named_stays text seen n us None = stops (place_here text n us)
 named_stays text seen n us (Some x) =
-    elim (list_any (bytes_eq x) (names_of seen)) as (λ b. Stays text (n ∷ us)
-    ((if b then Err (Twice n.start) else Ok (x, us)) >>= λ y. (expect text symbol.Colon y.1 >>= λ vs. described text y.0 vs))) [
+    elim (list_any (bytes_eq x) (names_of seen)) as (λ b. Stays text (n ∷ us) (new_or n x us b >>= λ y. (expect text symbol.Colon y.1 >>= λ vs. described text y.0 vs))) [
       | true ↦ stops (place_here text n us)
       | false ↦ stays_tail text (skip all) (colon_stays text x us)
     ]
