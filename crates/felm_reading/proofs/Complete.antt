@@ -6,14 +6,15 @@ use Rattle.felm_term.specs.Inputs.{names_of}
 use Rattle.felm_term.specs.declared.input.InputDecl.{InputDecl}
 use Rattle.felm_lexer.specs.Readings.{Reads as Tokenizes, Whole}
 use Rattle.felm_lexer.specs.declared.token.Token.{Token}
+use Rattle.felm_lexer.proofs.Spans.{in_order}
 use Rattle.felm_syntax.specs.Expression.{Expression}
 use Rattle.felm_syntax.specs.FirstFaults.{Fault, Syntax, Depth, Twice, IsFirstFault}
 use Rattle.felm_syntax.specs.Grammar.{ReadsProgram}
 use Rattle.felm_syntax.specs.Nesting.{NestWithin}
-use Rattle.felm_reading.specs.Laws.{ProgramSound, ProgramComplete}
+use Rattle.felm_reading.specs.Laws.{ProgramSound, ProgramComplete, ProgramPasses}
 use Rattle.felm_reading.specs.Reading.{program_after}
 use Rattle.felm_reading.proofs.Exact.{ended_room, first_fault}
-use Rattle.felm_reading.proofs.OneFault.{beginning}
+use Rattle.felm_reading.proofs.OneFault.{beginning, read_passes}
 use Rattle.felm_reading.proofs.ProgramMeets.{program_meets}
 use Rattle.felm_reading.proofs.ProgramRuns.{Parts}
 use Rattle.felm_reading.proofs.Whole.{program_read, program_syntax, program_twice, one_program}
@@ -39,3 +40,7 @@ complete_by text limit ts ds main tokenizes reads distinct within (Err (Twice at
 pub program_complete : ProgramComplete
 program_complete text limit ts ds main tokenizes reads distinct within =
     complete_by text limit ts ds main tokenizes reads distinct within (program_after text limit [] ts) refl
+
+pub program_passes : ProgramPasses
+program_passes text limit ts ds main tokenizes reads distinct within =
+    read_passes text limit ts (ds, main) (in_order text ts tokenizes) (program_complete text limit ts ds main tokenizes reads distinct within)

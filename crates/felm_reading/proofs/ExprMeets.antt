@@ -25,7 +25,7 @@ use Rattle.felm_reading.proofs.Ranks.{rank, level_rank, power}
 use Rattle.felm_reading.proofs.Tokens.{name-is, number-is, name_read, number_read}
 use Rattle.felm_reading.proofs.Firsts.{operator-rank, comparison-rank, small_rank_at, no_backslash, no_let, no_if, no_minus, no_foldp, no_async, no_lift, lift_no_minus, lift_no_foldp, lift_no_async, no_close, atom_operand, lift_operand_kind, operand_expr}
 use Rattle.felm_reading.proofs.Runs.{no_front}
-use Rattle.felm_reading.proofs.ExprRoom.{run, low, part_low, part_power, atom_starts, operand_starts, expr_starts, agrees, deeper}
+use Rattle.felm_reading.proofs.ExprRoom.{run, low, part_low, part_power, atom_starts, operand_starts, expr_starts, settles, deeper}
 use Rattle.felm_reading.proofs.ExprRuns.{part_for, reads_read}
 use Rattle.felm_reading.proofs.TypeMeets.{types_meet, type_agree, close_ends}
 use Rattle.felm_reading.proofs.TypeRuns.{types_read}
@@ -148,12 +148,12 @@ dot_ends_type (starts h) = rw h refl
 -- a whole phrase that ends is read
 agree : (text : List ℕ) (room : ℕ) (p : Phrase) (ts us : List Token) → rank us < power p → f.Whole text (f.phrase p) ts us → ReadsOr (run text room p ts) us
 agree text room p ts us ends (f.whole_token h) = absurd h
-agree text room p ts us ends (f.whole_phrase {e} r) = reads_or (run text room p ts) e us _ room (agrees text r ends room)
+agree text room p ts us ends (f.whole_phrase {e} r) = reads_or (run text room p ts) e us _ room ((settles text r ends).1 room)
 
 pub expr_agree : (text : List ℕ) (room : ℕ) (ts us : List Token) → rank us < 1 → f.Whole text (f.phrase g.expr) ts us → ReadsOr (reads_in text room Whole ts) us
 expr_agree text room ts us ends (f.whole_token h) = absurd h
 expr_agree text room ts us ends (f.whole_phrase {e} r) =
-    reads_or (reads_in text room Whole ts) e us _ room (deeper text ts (e, us) _ (expr_starts r) (λ k. agrees text r ends k) room)
+    reads_or (reads_in text room Whole ts) e us _ room ((deeper text ts (e, us) (expr_starts r) (settles text r ends)).1 room)
 
 module _ (text : List ℕ) (room : ℕ) (meets : (d : Deeper) → Meets text (part_for d ∷ []) room (reads_in text room d)) where
   inner_ends : (d : Deeper) → Ended text (reads_in text room d [])

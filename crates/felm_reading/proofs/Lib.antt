@@ -1,7 +1,6 @@
 pub mod Tokens
 pub mod Runs
 pub mod Ranks
-pub mod Depths
 pub mod Room
 pub mod Firsts
 pub mod TypeRoom
@@ -25,5 +24,4 @@ pub mod Exact
 pub mod OneFault
 pub mod Complete
 pub mod Longest
-pub mod Rows
 pub mod TokenNames

@@ -4,11 +4,11 @@ use Rattle.std.specs.Prelude.{◌⊎◌}
 use Rattle.felm_lexer.specs.Readings.{Reads as Tokenizes, Whole}
 use Rattle.felm_lexer.specs.declared.token.Token.{Token}
 use Rattle.felm_lexer.proofs.Spans.{in_order}
-use Rattle.felm_syntax.specs.FirstFaults.{Fault, Syntax, RefusesToken, IsCutShort, IsFirstFault}
+use Rattle.felm_syntax.specs.FirstFaults.{Syntax, RefusesToken, IsCutShort}
 use Rattle.felm_syntax.specs.Fronts.{IsFront}
 use Rattle.felm_reading.specs.Laws.{WholeIsFront, NoFrontGoesOn, IsLongestFront, BehindLongestFront}
 use Rattle.felm_reading.specs.Reading.{place}
-use Rattle.felm_reading.proofs.Exact.{read_of, proper_of, why, starts_inside, no_longer_front}
+use Rattle.felm_reading.proofs.Exact.{proper_of, why, starts_inside, no_longer_front}
 use Rattle.felm_reading.proofs.FrontsAre.{whole_program_front}
 use Rattle.felm_reading.proofs.OneFault.{first_fault_met}
 use Rattle.felm_reading.proofs.ProgramRuns.{done}
@@ -42,23 +42,31 @@ abbrev Behind : List ℕ → ℕ → List Token → Type 0
 Behind text at ts = (front : List Token) × (rest : List Token) × IsLongestFront text ts front rest × (at ≡ place text rest)
 
 refused_behind : (text : List ℕ) (limit at : ℕ) (ts : List Token) → Tokenizes text (Whole ts) → RefusesToken text limit ts (Syntax at) → Behind text at ts
-refused_behind text limit at ts tokenizes (first, t, rest, e, pass, none, here) =
-    (first, t ∷ rest, record {
-      split = e;
-      is_front = (pass first [] (sym (append-nil first))).0;
-      longest = λ longer more split front. elim (beside longer more first rest t (sym split ∙ e)) as (λ _. length longer ≤ length first) [
-        | inl le ↦ le
-        | inr (q, h) ↦ absurd (no_front_goes_on text limit first rest q t (subst (λ us. Tokenizes text (Whole us)) e tokenizes) pass none (subst (IsFront text) h front))
-      ];
-    }, here)
+refused_behind text limit at ts tokenizes (first, t, rest, e, pass, none, here) = (
+  first,
+  t ∷ rest,
+  record {
+    split = e;
+    is_front = (pass first [] (sym (append-nil first))).0;
+    longest = λ longer more split front. elim (beside longer more first rest t (sym split ∙ e)) as (λ _. length longer ≤ length first) [
+      | inl le ↦ le
+      | inr (q, h) ↦ absurd (no_front_goes_on text limit first rest q t (subst (λ us. Tokenizes text (Whole us)) e tokenizes) pass none (subst (IsFront text) h front))
+    ];
+  },
+  here,
+)
 
 cut_behind : (text : List ℕ) (limit at : ℕ) (ts : List Token) → IsCutShort text limit ts → at ≡ length text → Behind text at ts
-cut_behind text limit at ts short here =
-    (ts, [], record {
-      split = sym (append-nil ts);
-      is_front = (short.0 ts [] (sym (append-nil ts))).0;
-      longest = λ longer more split front. let e = ap length split in omega (arith, e, length-append longer more);
-    }, here)
+cut_behind text limit at ts short here = (
+  ts,
+  [],
+  record {
+    split = sym (append-nil ts);
+    is_front = (short.0 ts [] (sym (append-nil ts))).0;
+    longest = λ longer more split front. let e = ap length split in omega (arith, e, length-append longer more);
+  },
+  here,
+)
 
 pub behind_longest_front : BehindLongestFront
 behind_longest_front text limit at ts tokenizes (inl refuses) = refused_behind text limit at ts tokenizes refuses

@@ -75,9 +75,9 @@ meets_is text ps room g h alike meets n ts d = subst (Met text n room) (sym (ali
 abbrev pub ReadsOr : {X : Type 0} → Answer X → List Token → Type 0
 ReadsOr {X} a us = ((x : X) × (a ≡ Ok (x, us))) ⊎ IsDepth a
 
-pub reads_or : {X : Type 0} (a : Answer X) (x : X) (us : List Token) (depth room : ℕ) → Agrees a (x, us) depth room → ReadsOr a us
-reads_or a x us depth room (inl (h, _)) = inl (x, h)
-reads_or a x us depth room (inr (h, _)) = inr h
+pub reads_or : {X : Type 0} (a : Answer X) (x : X) (us : List Token) (need room : ℕ) → Agrees a (x, us) need room → ReadsOr a us
+reads_or a x us need room (inl h) = inl (x, h)
+reads_or a x us need room (inr (h, _)) = inr h
 
 -- a whole first part and then a front
 pub meets_bind : {X Y : Type 0} (text : List ℕ) (p : Part) (ps : List Part) (room : ℕ) (g : List Token → Answer X) (k : X × List Token → Answer Y) →

@@ -85,14 +85,14 @@ pub beginning : (text : List ℕ) (limit : ℕ) (ts : List Token) (x : Parts) �
 beginning text limit ts x read first rest e =
     ended_program x (reads_beside text limit first rest) (subst (λ l. read_of text limit l ≡ Ok (x, [])) e (ap done read))
 
-program_passes : (text : List ℕ) (limit : ℕ) (ts : List Token) (x : Parts) → StandInOrder text 0 ts → program_after text limit [] ts ≡ Ok x → AllPass text limit ts
-program_passes text limit ts x order read first rest e =
+pub read_passes : (text : List ℕ) (limit : ℕ) (ts : List Token) (x : Parts) → StandInOrder text 0 ts → program_after text limit [] ts ≡ Ok x → AllPass text limit ts
+read_passes text limit ts x order read first rest e =
     let order_of : StandInOrder text 0 (first ++ rest) = subst (StandInOrder text 0) e order in
     passes text limit first (beginning text limit ts x read first rest e)
     (λ t q tail at. let lt = tail_within text 0 t (q ++ rest) (tail_append rest tail) refl order_of in absurd (omega arith))
 
 no_fault : (text : List ℕ) (limit : ℕ) (ts : List Token) (x : Parts) (fault : Fault) → StandInOrder text 0 ts → program_after text limit [] ts ≡ Ok x → IsFirstFault text limit ts fault → ⊥
-no_fault text limit ts x fault order read (inl r) = pass_refuse text limit ts fault (program_passes text limit ts x order read) r
+no_fault text limit ts x fault order read (inl r) = pass_refuse text limit ts fault (read_passes text limit ts x order read) r
 no_fault text limit ts x fault order read (inr r) = let reads = program_read text limit ts x.0 x.1 read in r.0.1 x.0 x.1 reads.0
 
 by_answer : (text : List ℕ) (limit : ℕ) (ts : List Token) (fault : Fault) → Tokenizes text (Whole ts) → IsFirstFault text limit ts fault → (a : Result Parts Fault) → program_after text limit [] ts ≡ a → a ≡ Err fault

@@ -18,7 +18,7 @@ use Rattle.felm_syntax.specs.Nesting as path
 use Rattle.felm_syntax.specs.Grammar.{IsWord, IsName, Phrase, ReadsDeclaration}
 use Rattle.felm_syntax.specs.Grammar as g
 use Rattle.felm_syntax.specs.Kinds.{unsigned_number, negated}
-use Rattle.felm_syntax.specs.FirstFaults.{Fault, Twice, Declares, NamesAgain}
+use Rattle.felm_syntax.specs.FirstFaults.{Fault, Twice}
 use Rattle.felm_reading.specs.Reading.{◌>>=◌, Answer, Whole, place, has_mark, has_word, expect, expect_word, name, numeral, literal, new_name, int_input, unit_input, described, declaration, reads_in, all_of, main_of, program_after}
 use Rattle.felm_reading.proofs.Tokens.{number-is, number_read}
 use Rattle.felm_reading.proofs.Declared.{if_new, new_name_read, declaration_word, declaration_read}

@@ -14,7 +14,7 @@ use Rattle.felm_syntax.specs.Nesting as path
 use Rattle.felm_syntax.specs.Grammar as g
 use Rattle.felm_reading.specs.Reading.{◌>>=◌, Answer, has_mark, has_word, starts_type, refused, expect, closed_type, signal_type, whole_type, type_in}
 use Rattle.felm_reading.proofs.Runs.{no_front}
-use Rattle.felm_reading.proofs.TypeRoom.{type_agrees, type_deeper, type_starts, closed_is}
+use Rattle.felm_reading.proofs.TypeRoom.{type_settles, type_deeper, type_starts, closed_is}
 use Rattle.felm_reading.proofs.TypeRuns.{types_read}
 use Rattle.felm_reading.proofs.Meets.{Ended, ended_ok, ended_out, Met, deep, Meets, ReadsOr, reads_or, Starts, starts, starts_mark, starts_word, ended_of, ended_bind, ended_last, met_suc, meets_last, meets_none, meets_bind, meets_first, meets_expect}
 
@@ -59,11 +59,11 @@ starts_whole (path.after (f.whole_type r) _) = type_starts r
 pub type_agree : (text : List ℕ) (room : ℕ) (ts us : List Token) → has_mark symbol.Arrow us ≡ false → Whole text (f.type g.whole) ts us → ReadsOr (type_in text room ts) us
 type_agree text room ts us ends (f.whole_token h) = absurd h
 type_agree text room ts us ends (f.whole_type {ty} r) =
-    reads_or (type_in text room ts) ty us _ room (type_deeper text ts (ty, us) _ (type_starts r) (λ k. type_agrees text r ends k) room)
+    reads_or (type_in text room ts) ty us _ room ((type_deeper text ts (ty, us) (type_starts r) (type_settles text r ends)).1 room)
 
 signal_agree : (text : List ℕ) (room : ℕ) (ts us : List Token) → Whole text (f.type g.signal) ts us → ReadsOr (signal_type text (type_in text room) ts) us
 signal_agree text room ts us (f.whole_token h) = absurd h
-signal_agree text room ts us (f.whole_type {ty} r) = reads_or (signal_type text (type_in text room) ts) ty us _ room (type_agrees text r tt room)
+signal_agree text room ts us (f.whole_type {ty} r) = reads_or (signal_type text (type_in text room) ts) ty us _ room ((type_settles text r tt).1 room)
 
 -- a bracket is no arrow
 close_no_arrow : {us : List Token} → Starts (kind.Mark symbol.CloseBracket) us → has_mark symbol.Arrow us ≡ false

@@ -44,6 +44,11 @@ TokenNames = (text : List ℕ) (tokens : List Token) → Tokenizes text (Whole t
 
 -- ---- fronts and faults
 
+-- none of the tokens of a program is refused
+abbrev pub ProgramPasses : Type 0
+ProgramPasses = (text : List ℕ) (limit : ℕ) (ts : List Token) (ds : List InputDecl) (main : Expression) → Tokenizes text (Whole ts)
+    → ReadsProgram text ts ds main → IsDistinct bytes_eq (names_of ds) → NestWithin text limit ts → AllPass text limit ts
+
 -- a whole program is a front of one
 abbrev pub WholeIsFront : Type 0
 WholeIsFront = (text : List ℕ) (ts : List Token) (ds : List InputDecl) (main : Expression) → ReadsProgram text ts ds main → IsFront text ts

@@ -1,6 +1,6 @@
 //! Laws that tie the reading function to the grammar and its fronts. Each function's contract is a
 //! law, and its body does nothing.
-ghost use Rattle.felm_reading.specs.Laws.{ProgramSound, ProgramComplete, ProgramSize, OneProgram, TokenNames, WholeIsFront, FirstFault, OneFirstFault, FirstFaultMet, NoFrontGoesOn, BehindLongestFront};
+ghost use Rattle.felm_reading.specs.Laws.{ProgramSound, ProgramComplete, ProgramSize, OneProgram, TokenNames, ProgramPasses, WholeIsFront, FirstFault, OneFirstFault, FirstFaultMet, NoFrontGoesOn, BehindLongestFront};
 
 /// What is read is a program by the grammar, with distinct names and within the limit of nesting.
 pub fn what_is_read_is_a_program()
@@ -25,6 +25,11 @@ pub fn one_program()
 /// Of the tokens of a text, each of the kind of names is the name that its slice spells.
 pub fn name_tokens_have_names()
     ensures { TokenNames }
+{}
+
+/// None of the tokens of a program is refused.
+pub fn the_tokens_of_a_program_pass()
+    ensures { ProgramPasses }
 {}
 
 /// A whole program is a front of one.

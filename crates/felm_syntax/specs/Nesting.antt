@@ -17,11 +17,11 @@ pub data Nests (text : List ℕ) : List Part → ℕ → List Token → Type 0 w
   after : {p : Part} {ps : List Part} {n : ℕ} {ts us : List Token} →
       Whole text p ts us → Nests text ps n us → Nests text (p ∷ ps) n ts
 
--- As a front of a program, the tokens have a last one that nests at most so deeply.
+-- as a front of a program, the last of the tokens nests at most so deeply
 abbrev pub HasRoom : List ℕ → ℕ → List Token → Type 0
 HasRoom text limit ts = (n : ℕ) → Nests text (program ∷ []) n ts → n ≤ limit
 
--- As a front of a program, the tokens have a last one that nests deeper.
+-- as a front of a program, the last of the tokens nests deeper
 abbrev pub IsTooDeep : List ℕ → ℕ → List Token → Type 0
 IsTooDeep text limit ts = (n : ℕ) × Nests text (program ∷ []) n ts × (limit < n)
 
