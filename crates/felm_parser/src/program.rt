@@ -68,7 +68,8 @@ pub fn parse(alloc: Global, text: &[u8], tokens: &[Token]) -> Result<Program, Pa
     ensures size { IfOk result (λ program. length program.inputs + binders program.main ≤ length text.now) }
 
     // A refusal is the first fault, and the first fault is refused.
-    ensures fault { IfErr result (λ fault. IfSome (fault_of fault) (λ first. IsFirstFault text.now nesting_limit tokens.now first)) }
+    ensures fault { IfErr result (λ fault. IfSome (fault_of fault)
+        (λ first. IsFirstFault text.now nesting_limit tokens.now first)) }
     ensures refuses { (first : Fault) → IsFirstFault text.now nesting_limit tokens.now first
         → MatchResult result (λ _. ⊥) (λ fault. IfSome (fault_of fault) (λ found. found ≡ first)) }
 {
