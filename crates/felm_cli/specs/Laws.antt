@@ -14,7 +14,7 @@ use Rattle.felm_printer.specs.Results.{result_text, stopped_text}
 use Rattle.felm_cli.specs.Words.{OrderValue}
 use Rattle.felm_cli.specs.Faults.{IsSyntaxFault, IsTypingFault}
 use Rattle.felm_cli.specs.Plans.{Planned, HavePlan, HasGraph}
-use Rattle.felm_cli.specs.Promises.{ComeTo, IsOneWith}
+use Rattle.felm_cli.specs.Promises.{ComeTo}
 
 -- two texts have at most one plan
 abbrev pub OnePlan : Type 0
@@ -49,8 +49,7 @@ abbrev pub FaultyProgramsAreUntyped : Type 0
 FaultyProgramsAreUntyped =
     (text : List ℕ) (cause : TypingCause) (at : ℕ) (program : Program) → IsTypingFault text cause at → IsProgramText text program → IsTyped program → ⊥
 
--- the texts of an order come to at most one status; where the tokens of the program's text are no program, its cause and place may
--- differ
+-- the texts of an order come to at most one status
 abbrev pub TextsComeToOneEnd : Type 0
 TextsComeToOneEnd =
-    (order : OrderValue) (program script : List ℕ) (one other : Status) → ComeTo order program script one → ComeTo order program script other → IsOneWith one other
+    (order : OrderValue) (program script : List ℕ) (one other : Status) → ComeTo order program script one → ComeTo order program script other → one ≡ other

@@ -32,8 +32,7 @@ pub fn faulty_programs_are_untyped()
     ensures { FaultyProgramsAreUntyped }
 {}
 
-/// The texts of an order come to at most one status; where the tokens of the program's text are no
-/// program, its cause and place may differ.
+/// The texts of an order come to at most one status.
 pub fn texts_come_to_one_end()
     ensures { TextsComeToOneEnd }
 {}
