@@ -2,10 +2,9 @@
 use Rattle.std.specs.Prelude.{ℕ, List}
 use Rattle.felm_printer.specs.declared.status.Status.{Status}
 use Rattle.felm_cli.specs.Words.{OrderValue}
-use Rattle.felm_cli.specs.Promises.{ComeTo, IsOneWith}
+use Rattle.felm_cli.specs.Promises.{ComeTo}
 
--- the texts of an order come to at most one status; where the tokens of the program's text are no program, its cause and place may
--- differ
+-- the texts of an order come to at most one status
 abbrev pub TextsComeToOneEnd : Type 0
 TextsComeToOneEnd =
-    (order : OrderValue) (program script : List ℕ) (one other : Status) → ComeTo order program script one → ComeTo order program script other → IsOneWith one other
+    (order : OrderValue) (program script : List ℕ) (one other : Status) → ComeTo order program script one → ComeTo order program script other → one ≡ other

@@ -9,11 +9,10 @@ use Rattle.felm_meaning.specs.Journals.{IsLegal, IsComplete, IsLeastNone}
 use Rattle.felm_meaning.specs.Ends.{IsStopped, IsOverDefault, IsFull}
 use Rattle.felm_printer.specs.declared.result.Closing.TheVariants as closing
 use Rattle.felm_printer.specs.declared.status.Status.{Status}
-use Rattle.felm_printer.specs.declared.status.Status.TheVariants.{Success, Read, TooLong, Syntax, Turn, Journal, Write, Memory}
+use Rattle.felm_printer.specs.declared.status.Status.TheVariants.{Success, Read, TooLong, Turn, Journal, Write, Memory}
 use Rattle.felm_printer.specs.declared.status.Which.TheVariants.{Program, Script}
 use Rattle.felm_printer.specs.Results.{result_text, stopped_text}
 use Rattle.felm_printer.specs.Graphs.{graph_text}
-use Rattle.felm_plans.specs.Faults.{IsOneFault}
 use Rattle.felm_plans.specs.Plans.{Planned, is_short, HavePlan, HasGraph}
 use Rattle.felm_cli.specs.Words.{OrderValue, Sync, Graph}
 use Rattle.felm_cli.specs.Ends.{AreFaulty, EndsWith, LeavesText, journal_of}
@@ -70,17 +69,12 @@ ComeTo order program script (Turn node position) = CanEnd order program script (
 ComeTo order program script Journal = CanEnd order program script Journal
 ComeTo order program script status = (is_short program ≡ true) × (is_short script ≡ true) × AreFaulty order program script status
 
--- the same status, or the same fault of the program's text
-abbrev pub IsOneWith : Status → Status → Type 0
-IsOneWith (Syntax cause at) status = IsOneFault cause at status
-IsOneWith expected status = status ≡ expected
-
 -- the status is the expected one, unless a load failed, a put of its text failed, or there was no memory
 abbrev pub Answers : Status → Status → Type 0
 Answers expected (Read which) = ⊤
 Answers expected Write = LeavesText expected
 Answers expected Memory = ⊤
-Answers expected status = IsOneWith expected status
+Answers expected status = status ≡ expected
 
 -- the texts have a plan, and this is its least node without a default
 abbrev pub LackDefault : OrderValue → List ℕ → List ℕ → ℕ → Type 0

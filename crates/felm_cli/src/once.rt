@@ -78,8 +78,7 @@ pub fn felm_once<F: Files, S: Sink, E: Sink>(
     ensures stage { (cause : StageCause) → result ≡ Status.Stage cause → OfOrder (order_of (map string_bytes words.now))
         (λ order. OfShort (F.bytes files.old) order (λ program script. AreFaulty order program script (Status.Stage cause))) }
 
-    // Each of these comes wherever the texts come to it, and so does success, unless a load or a put failed or there was no memory;
-    // but of a text that is no program the cause and the place may differ.
+    // Each of these comes wherever the texts come to it, and so does success, unless a load or a put failed or there was no memory.
     ensures exact { (order : OrderValue) (program script : List ℕ) (expected : Status) → order_of (map string_bytes words.now) ≡ Some order
         → AreTexts (F.bytes files.old) order program script → ComeTo order program script expected → Answers expected result }
     // A default over budget stops the run before its first event, at the least node without one.

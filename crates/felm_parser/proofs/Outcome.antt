@@ -45,9 +45,9 @@ accepts text ts result read tokenizes program is = by_answer result read
         let same = one_program text ts found.inputs program.inputs found.main program.main own.0 is.0 in
         λ i. record { inputs = same.0 i; main = same.1 i }
     by_answer (Err fault.Memory) h = refl
-    by_answer (Err (fault.Syntax at)) h = absurd (cc)
-    by_answer (Err (fault.Depth at)) h = absurd (cc)
-    by_answer (Err (fault.Twice at)) h = absurd (cc)
+    by_answer (Err (fault.Syntax at)) h = let read_too = whole in absurd (cc)
+    by_answer (Err (fault.Depth at)) h = let read_too = whole in absurd (cc)
+    by_answer (Err (fault.Twice at)) h = let read_too = whole in absurd (cc)
 
 pub size : (text : List ℕ) (ts : List Token) (result : Result Program ParseFault) → IsRead text ts result → Tokenizes text (Whole ts)
     → IfOk result (λ program. length program.inputs + binders program.main ≤ length text)

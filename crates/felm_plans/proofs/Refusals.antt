@@ -1,5 +1,5 @@
 -- What the texts of an order are read as, and why they are refused.
-use Rattle.std.proofs.Common.{◌≡◌, ℕ, List, [], Some, refl, sym, ap, ◌∙◌, subst, arith, inl, inr}
+use Rattle.std.proofs.Common.{◌≡◌, ℕ, List, [], Some, refl, sym, ap, ◌∙◌, subst, inl, inr}
 use Rattle.std.specs.Prelude.{IfSome, Result, Ok, Err}
 use Rattle.felm_lexer.specs.declared.token.Token.{Token}
 use Rattle.felm_lexer.specs.declared.fault.LexFault.{LexFault}
@@ -8,13 +8,16 @@ use Rattle.felm_lexer.specs.Readings.{Reading, Reads, Whole, NoToken as NoTokenA
 use Rattle.felm_lexer.proofs.Every.{some_reading}
 use Rattle.felm_lexer.proofs.Readings.{one_reading}
 use Rattle.felm_syntax.specs.Expression.{Expression}
+use Rattle.felm_syntax.specs.FirstFaults.{Fault, IsFirstFault as IsTokenFault}
+use Rattle.felm_syntax.specs.FirstFaults as tokens
 use Rattle.felm_syntax.specs.ProgramText.{IsProgram, IsProgramText, nesting_limit}
 use Rattle.felm_syntax.specs.declared.program.Program.{Program}
-use Rattle.felm_reading.specs.Places.{IsPlace}
-use Rattle.felm_reading.specs.Reading.{Fault, program_after}
-use Rattle.felm_reading.specs.Reading as reading
-use Rattle.felm_reading.proofs.Whole.{one_program, program_sound, program_syntax, program_depth, program_twice, fault_place}
-use Rattle.felm_parser.specs.Refusals.{IsNoProgram, NestsTooDeeply, DeclaresTwice, place_of}
+use Rattle.felm_reading.specs.Reading.{program_after}
+use Rattle.felm_reading.proofs.Complete.{program_sound, program_complete}
+use Rattle.felm_reading.proofs.Exact.{first_fault}
+use Rattle.felm_reading.proofs.OneFault.{one_first_fault, first_fault_met}
+use Rattle.felm_reading.proofs.Whole.{one_program}
+use Rattle.felm_parser.specs.Gives.{fault_of}
 use Rattle.felm_parser.specs.declared.fault.ParseFault.{ParseFault}
 use Rattle.felm_parser.specs.declared.fault.ParseFault.TheVariants as parsing
 use Rattle.felm_types.specs.declared.fault.TypeFault.{TypeFault}
@@ -30,7 +33,7 @@ use Rattle.felm_printer.specs.declared.status.Status.TheVariants.{Syntax}
 use Rattle.felm_printer.specs.declared.status.SyntaxCause.{SyntaxCause}
 use Rattle.felm_printer.specs.declared.status.SyntaxCause.TheVariants.{NoToken, Wide, Grammar, Depth, Twice}
 use Rattle.felm_plans.specs.Status.{status_of_lex_fault, status_of_parse_fault, status_of_type_fault, status_of_script_fault}
-use Rattle.felm_plans.specs.Faults.{IsSyntaxFault, AreRefused, IsOfTokens, IsOneFault}
+use Rattle.felm_plans.specs.Faults.{IsSyntaxFault, HasTokenFault}
 use Rattle.felm_plans.specs.Plans.{IsProgramFault, IsCheckFault, IsEventsFault, OrMemory}
 use Rattle.felm_plans.specs.Laws.{IsProgramOrFaulty, TextsAreProgramsOrFaulty, FaultyTextsAreNoPrograms, FaultyProgramsAreUntyped}
 
@@ -49,38 +52,29 @@ one_text text one other p q =
 not_whole : (text : List ℕ) (tokens : List Token) (reading : Reading) → Reads text (Whole tokens) → Reads text reading → Whole tokens ≡ reading
 not_whole text tokens reading p q = one_reading text (Whole tokens) reading p q
 
-no_program : (cause : SyntaxCause) (text : List ℕ) (tokens : List Token) (program : Program) → AreRefused cause text tokens → IsProgram text tokens program → ⊥
-no_program NoToken text tokens program bad is = bad
-no_program Wide text tokens program bad is = bad
-no_program Grammar text tokens program bad is = bad program.inputs program.main is.0
-no_program Depth text tokens program bad is =
-    let deep = bad program.inputs program.main is.0 in
-    let fits = is.2 in omega arith
-no_program Twice text tokens program bad is = bad program.inputs program.main is.0 is.1
+-- tokens with a fault are no program
+faulty : (text : List ℕ) (fault : Fault) (program : Program) → HasTokenFault text fault → IsProgramText text program → ⊥
+faulty text fault program (ts, reads, first) is =
+    let same : is.0 ≡ ts = same_tokens text is.0 ts is.1 reads in
+    let p = subst (λ us. IsProgram text us program) same is.2 in
+    let met = first_fault_met text nesting_limit ts fault reads first in
+    let whole = program_complete text nesting_limit ts program.inputs program.main reads p.0 p.1 p.2 in cc
 
-faulty : (text : List ℕ) (cause : SyntaxCause) (program : Program) (tokens : List Token) → Reads text (Whole tokens) → AreRefused cause text tokens
-    → IsProgramText text program → ⊥
-faulty text cause program tokens reads bad is =
-    let same : is.0 ≡ tokens = same_tokens text is.0 tokens is.1 reads in
-    no_program cause text tokens program bad (subst (λ ts. IsProgram text ts program) same is.2)
-
--- a text that has tokens has no fault but of them
-of_tokens : (text : List ℕ) (tokens : List Token) (d : SyntaxCause) (n : ℕ) → Reads text (Whole tokens) → IsSyntaxFault text d n → IsOfTokens (Syntax d n)
-of_tokens text tokens NoToken n reads g = let e = not_whole text tokens (NoTokenAt n) reads g in cc
-of_tokens text tokens Wide n reads g = let e = not_whole text tokens (TooWideAt n) reads g in cc
-of_tokens text tokens Grammar n reads g = tt
-of_tokens text tokens Depth n reads g = tt
-of_tokens text tokens Twice n reads g = tt
+-- and have no other one
+same_fault : (text : List ℕ) (one other : Fault) → HasTokenFault text one → HasTokenFault text other → one ≡ other
+same_fault text one other p q =
+    one_first_fault text nesting_limit p.0 one other p.2
+    (subst (λ ts. IsTokenFault text nesting_limit ts other) (same_tokens text q.0 p.0 q.1 p.1) q.2)
 
 pub faulty_texts : FaultyTextsAreNoPrograms
 faulty_texts text NoToken at program fault is = let e = not_whole text is.0 (NoTokenAt at) is.1 fault in cc
 faulty_texts text Wide at program fault is = let e = not_whole text is.0 (TooWideAt at) is.1 fault in cc
-faulty_texts text Grammar at program fault is = faulty text Grammar program fault.0 fault.1 fault.3 is
-faulty_texts text Depth at program fault is = faulty text Depth program fault.0 fault.1 fault.3 is
-faulty_texts text Twice at program fault is = faulty text Twice program fault.0 fault.1 fault.3 is
+faulty_texts text Grammar at program fault is = faulty text (tokens.Syntax at) program fault is
+faulty_texts text Depth at program fault is = faulty text (tokens.Depth at) program fault is
+faulty_texts text Twice at program fault is = faulty text (tokens.Twice at) program fault is
 
--- faults of one text are one: those by which it has no tokens are the same, and else its tokens are no program
-pub one_fault : (text : List ℕ) (c d : SyntaxCause) (m n : ℕ) → IsSyntaxFault text c m → IsSyntaxFault text d n → IsOneFault c m (Syntax d n)
+-- a text has at most one fault
+pub one_fault : (text : List ℕ) (c d : SyntaxCause) (m n : ℕ) → IsSyntaxFault text c m → IsSyntaxFault text d n → Syntax c m ≡ Syntax d n
 one_fault text NoToken NoToken m n f g = let e = one_reading text (NoTokenAt m) (NoTokenAt n) f g in cc
 one_fault text NoToken Wide m n f g = let e = one_reading text (NoTokenAt m) (TooWideAt n) f g in cc
 one_fault text NoToken Grammar m n f g = let e = not_whole text g.0 (NoTokenAt m) g.1 f in cc
@@ -91,28 +85,37 @@ one_fault text Wide Wide m n f g = let e = one_reading text (TooWideAt m) (TooWi
 one_fault text Wide Grammar m n f g = let e = not_whole text g.0 (TooWideAt m) g.1 f in cc
 one_fault text Wide Depth m n f g = let e = not_whole text g.0 (TooWideAt m) g.1 f in cc
 one_fault text Wide Twice m n f g = let e = not_whole text g.0 (TooWideAt m) g.1 f in cc
-one_fault text Grammar d m n f g = of_tokens text f.0 d n f.1 g
-one_fault text Depth d m n f g = of_tokens text f.0 d n f.1 g
-one_fault text Twice d m n f g = of_tokens text f.0 d n f.1 g
+one_fault text Grammar NoToken m n f g = let e = not_whole text f.0 (NoTokenAt n) f.1 g in cc
+one_fault text Grammar Wide m n f g = let e = not_whole text f.0 (TooWideAt n) f.1 g in cc
+one_fault text Grammar Grammar m n f g = let e = same_fault text (tokens.Syntax m) (tokens.Syntax n) f g in cc
+one_fault text Grammar Depth m n f g = let e = same_fault text (tokens.Syntax m) (tokens.Depth n) f g in cc
+one_fault text Grammar Twice m n f g = let e = same_fault text (tokens.Syntax m) (tokens.Twice n) f g in cc
+one_fault text Depth NoToken m n f g = let e = not_whole text f.0 (NoTokenAt n) f.1 g in cc
+one_fault text Depth Wide m n f g = let e = not_whole text f.0 (TooWideAt n) f.1 g in cc
+one_fault text Depth Grammar m n f g = let e = same_fault text (tokens.Depth m) (tokens.Syntax n) f g in cc
+one_fault text Depth Depth m n f g = let e = same_fault text (tokens.Depth m) (tokens.Depth n) f g in cc
+one_fault text Depth Twice m n f g = let e = same_fault text (tokens.Depth m) (tokens.Twice n) f g in cc
+one_fault text Twice NoToken m n f g = let e = not_whole text f.0 (NoTokenAt n) f.1 g in cc
+one_fault text Twice Wide m n f g = let e = not_whole text f.0 (TooWideAt n) f.1 g in cc
+one_fault text Twice Grammar m n f g = let e = same_fault text (tokens.Twice m) (tokens.Syntax n) f g in cc
+one_fault text Twice Depth m n f g = let e = same_fault text (tokens.Twice m) (tokens.Depth n) f g in cc
+one_fault text Twice Twice m n f g = let e = same_fault text (tokens.Twice m) (tokens.Twice n) f g in cc
 
 -- a text is a program, or it has a fault
 pub program_or_fault : TextsAreProgramsOrFaulty
 program_or_fault text = let read = some_reading text in go read.0 read.1
   where
-    is : (tokens : List Token) → Reads text (Whole tokens) → (answer : Result (List InputDecl × Expression) Fault)
-        → program_after text nesting_limit [] tokens ≡ answer → IsProgramOrFaulty text
-    is tokens reads (Ok found) e =
-        let p = program_sound text nesting_limit tokens found.0 found.1 e in
-        inl (record { inputs = found.0; main = found.1 }, (tokens, reads, p))
-    is tokens reads (Err (reading.Syntax at)) e =
-        inr (Grammar, at, (tokens, reads, fault_place text nesting_limit tokens (reading.Syntax at) e, program_syntax text nesting_limit at tokens e))
-    is tokens reads (Err (reading.Depth at)) e =
-        inr (Depth, at, (tokens, reads, fault_place text nesting_limit tokens (reading.Depth at) e, program_depth text nesting_limit at tokens e))
-    is tokens reads (Err (reading.Twice at)) e =
-        inr (Twice, at, (tokens, reads, fault_place text nesting_limit tokens (reading.Twice at) e, program_twice text nesting_limit at tokens e))
+    is : (ts : List Token) → Reads text (Whole ts) → (answer : Result (List InputDecl × Expression) Fault)
+        → program_after text nesting_limit [] ts ≡ answer → IsProgramOrFaulty text
+    is ts reads (Ok found) e =
+        let p = program_sound text nesting_limit ts found.0 found.1 e in
+        inl (record { inputs = found.0; main = found.1 }, (ts, reads, p))
+    is ts reads (Err (tokens.Syntax at)) e = inr (Grammar, at, (ts, reads, first_fault text nesting_limit ts (tokens.Syntax at) reads e))
+    is ts reads (Err (tokens.Depth at)) e = inr (Depth, at, (ts, reads, first_fault text nesting_limit ts (tokens.Depth at) reads e))
+    is ts reads (Err (tokens.Twice at)) e = inr (Twice, at, (ts, reads, first_fault text nesting_limit ts (tokens.Twice at) reads e))
 
     go : (r : Reading) → Reads text r → IsProgramOrFaulty text
-    go (Whole tokens) reads = is tokens reads (program_after text nesting_limit [] tokens) refl
+    go (Whole ts) reads = is ts reads (program_after text nesting_limit [] ts) refl
     go (NoTokenAt at) reads = inr (NoToken, at, reads)
     go (TooWideAt at) reads = inr (Wide, at, reads)
 
@@ -140,16 +143,12 @@ lex_fault_is text (lexing.Wide at) b w = w at refl
 lex_fault_is text lexing.Memory b w = tt
 
 -- why tokens are no program, as the parser says it
-pub parse_fault_is : (text : List ℕ) (tokens slice : List Token) (fault : ParseFault) → Reads text (Whole tokens) → slice ≡ tokens
-    → IfSome (place_of fault) (λ at. IsPlace text slice at)
-    → ((at : ℕ) → fault ≡ parsing.Syntax at → IsNoProgram text slice)
-    → ((at : ℕ) → fault ≡ parsing.Depth at → NestsTooDeeply text slice)
-    → ((at : ℕ) → fault ≡ parsing.Twice at → DeclaresTwice text slice)
-    → OrMemory (IsProgramFault text) (status_of_parse_fault fault)
-parse_fault_is text tokens slice (parsing.Syntax at) reads is p s d t = (slice, subst (λ ts. Reads text (Whole ts)) (sym is) reads, p, s at refl)
-parse_fault_is text tokens slice (parsing.Depth at) reads is p s d t = (slice, subst (λ ts. Reads text (Whole ts)) (sym is) reads, p, d at refl)
-parse_fault_is text tokens slice (parsing.Twice at) reads is p s d t = (slice, subst (λ ts. Reads text (Whole ts)) (sym is) reads, p, t at refl)
-parse_fault_is text tokens slice parsing.Memory reads is p s d t = tt
+pub parse_fault_is : (text : List ℕ) (ts : List Token) (fault : ParseFault) → Reads text (Whole ts)
+    → IfSome (fault_of fault) (λ first. IsTokenFault text nesting_limit ts first) → OrMemory (IsProgramFault text) (status_of_parse_fault fault)
+parse_fault_is text ts (parsing.Syntax at) reads first = (ts, reads, first)
+parse_fault_is text ts (parsing.Depth at) reads first = (ts, reads, first)
+parse_fault_is text ts (parsing.Twice at) reads first = (ts, reads, first)
+parse_fault_is text ts parsing.Memory reads first = tt
 
 -- why a program has no type, as the checker says it
 pub type_fault_is : (program : Program) (fault : TypeFault) → IsFirstFault program fault → OrMemory (IsCheckFault program) (status_of_type_fault fault)

@@ -1,13 +1,13 @@
 -- What is wrong with a text, by the cause and the place that a status tells.
-use Rattle.std.specs.Prelude.{◌≡◌, ℕ, ⊤, List, Some, None}
+use Rattle.std.specs.Prelude.{◌≡◌, ℕ, List, Some, None}
 use Rattle.felm_term.specs.CoreTerm.{CoreTerm}
 use Rattle.felm_term.specs.declared.input.InputDecl.{InputDecl}
 use Rattle.felm_lexer.specs.declared.token.Token.{Token}
 use Rattle.felm_lexer.specs.Readings.{Reads, Whole, NoToken as NoTokenAt, TooWide as TooWideAt}
-use Rattle.felm_syntax.specs.ProgramText.{IsProgramText}
+use Rattle.felm_syntax.specs.FirstFaults.{Fault, IsFirstFault}
+use Rattle.felm_syntax.specs.FirstFaults as tokens
+use Rattle.felm_syntax.specs.ProgramText.{IsProgramText, nesting_limit}
 use Rattle.felm_syntax.specs.declared.program.Program.{Program}
-use Rattle.felm_reading.specs.Places.{IsPlace}
-use Rattle.felm_parser.specs.Refusals.{IsNoProgram, NestsTooDeeply, DeclaresTwice}
 use Rattle.felm_types.specs.declared.fault.TypeFault.{TypeFault}
 use Rattle.felm_types.specs.declared.fault.TypeFault.TheVariants as typing
 use Rattle.felm_types.specs.FirstFault.{program_fault}
@@ -15,8 +15,6 @@ use Rattle.felm_script.specs.declared.fault.ScriptFault.{ScriptFault}
 use Rattle.felm_script.specs.declared.fault.ScriptFault.TheVariants as scripting
 use Rattle.felm_graph.specs.FinishedPair.{FinishedPair, FinishGives}
 use Rattle.felm_stage.specs.Outcome.{IsLarge}
-use Rattle.felm_printer.specs.declared.status.Status.{Status}
-use Rattle.felm_printer.specs.declared.status.Status.TheVariants.{Syntax}
 use Rattle.felm_printer.specs.declared.status.SyntaxCause.{SyntaxCause}
 use Rattle.felm_printer.specs.declared.status.SyntaxCause.TheVariants.{NoToken, Wide, Grammar, Depth, Twice}
 use Rattle.felm_printer.specs.declared.status.TypingCause.{TypingCause}
@@ -28,31 +26,17 @@ use Rattle.felm_printer.specs.declared.status.StageCause.TheVariants.{Over, Larg
 
 -- ---- the program's text
 
--- why the tokens of a text are refused, by the cause that is named
-abbrev pub AreRefused : SyntaxCause → List ℕ → List Token → Type 0
-AreRefused Grammar text tokens = IsNoProgram text tokens
-AreRefused Depth text tokens = NestsTooDeeply text tokens
-AreRefused Twice text tokens = DeclaresTwice text tokens
-AreRefused _ text tokens = ⊥
+-- a text has tokens, and this is their first fault
+abbrev pub HasTokenFault : List ℕ → Fault → Type 0
+HasTokenFault text fault = (ts : List Token) × Reads text (Whole ts) × IsFirstFault text nesting_limit ts fault
 
--- a text is no program: its tokens are refused for a cause, at a place, or it has no tokens
+-- a text has no tokens, for this cause and from this place on, or this is the first fault of its tokens
 abbrev pub IsSyntaxFault : List ℕ → SyntaxCause → ℕ → Type 0
 IsSyntaxFault text NoToken at = Reads text (NoTokenAt at)
 IsSyntaxFault text Wide at = Reads text (TooWideAt at)
-IsSyntaxFault text cause at = (tokens : List Token) × Reads text (Whole tokens) × IsPlace text tokens at × AreRefused cause text tokens
-
--- a fault of a text whose tokens are no program
-abbrev pub IsOfTokens : Status → Type 0
-IsOfTokens (Syntax Grammar at) = ⊤
-IsOfTokens (Syntax Depth at) = ⊤
-IsOfTokens (Syntax Twice at) = ⊤
-IsOfTokens _ = ⊥
-
--- the same fault of the program's text; where its tokens are no program, the cause among these and the place may differ
-abbrev pub IsOneFault : SyntaxCause → ℕ → Status → Type 0
-IsOneFault NoToken at status = status ≡ Syntax NoToken at
-IsOneFault Wide at status = status ≡ Syntax Wide at
-IsOneFault _ at status = IsOfTokens status
+IsSyntaxFault text Grammar at = HasTokenFault text (tokens.Syntax at)
+IsSyntaxFault text Depth at = HasTokenFault text (tokens.Depth at)
+IsSyntaxFault text Twice at = HasTokenFault text (tokens.Twice at)
 
 -- ---- its types
 

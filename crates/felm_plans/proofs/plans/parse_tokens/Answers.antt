@@ -1,5 +1,3 @@
-use Rattle.std.proofs.Common.{refl, ap}
-use Rattle.std.specs.Prelude.{Err}
 use Rattle.felm_plans.proofs.Refusals.{parse_fault_is}
 use Rattle.felm_plans.proofs.plans.parse_tokens.Goals as goal
 
@@ -8,7 +6,5 @@ returns-in-Ok-clause-program c = (c.args.tokens.now, c.requires, c.in-Ok.ensures
 
 pub returns-in-Err-clause-fault : goal.returns-in-Err-clause-fault
 returns-in-Err-clause-fault c =
-    let why = c.in-Err.ensures in
     rw c.status_of_parse_fault.ensures
-    (parse_fault_is c.args.text.now c.args.tokens.now c.args.tokens.now c.in-Err.fault c.requires refl why.place
-    (λ at e. why.syntax at (ap Err e)) (λ at e. why.depth at (ap Err e)) (λ at e. why.twice at (ap Err e)))
+    (parse_fault_is c.args.text.now c.args.tokens.now c.in-Err.fault c.requires c.in-Err.ensures.fault)
