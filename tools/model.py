@@ -301,11 +301,15 @@ class Judge:
             self.enter(line)
             self.expect(line, event_text(self.meaning, len(self.journal.events)))
         found = re.fullmatch(r"stopped (0|[1-9][0-9]{0,8}) (0|[1-9][0-9]{0,8})", line)
-        k, position = map(int, found.groups()) if found else (0, 0)
-        known = k < len(self.journal.graph.nodes) and position <= len(self.journal.events)
-        if not known or not (self.meaning.is_over(k, position) if position else self.meaning.gap(0) == k):
+        if not found or not self.may_stop(*map(int, found.groups())):
             self.refuse("no run with these events stops so")
-        return k, position
+        return tuple(map(int, found.groups()))
+
+    def may_stop(self, k, position):
+        """Whether a run with these events may stop at a node and a position."""
+        if position == 0 or k >= len(self.journal.graph.nodes) or position > len(self.journal.events):
+            return position == 0 and k == self.meaning.gap(0)
+        return self.meaning.is_over(k, position)
 
     def refuse_gap(self):
         """Refuses a line of a result where a message is missing."""
@@ -481,11 +485,10 @@ def fault_of_run(program, script, limits, found):
     """What is wrong with the answer of a run in any legal order: its status, and the bytes on standard output and standard
     error. None where nothing is."""
     wanted = answer(lambda: replay(program, script, found[1], limits))
-    if wanted == found:
+    if found == wanted:
         return None
-    if wanted[0] == 14 and found[0] in (0, 9, 10):
-        return wanted[2].decode().strip()
-    return f"status {found[0]}, {found[2]!r}"
+    status, _, err = wanted if wanted[0] == 14 and found[0] in (0, 9, 10) else found
+    return f"status {status}, `{err.decode(errors='replace').strip()}`"
 
 
 SYNC_OPTIONS = ("turn-steps", "stage-steps", "journal")
