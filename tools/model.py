@@ -487,8 +487,9 @@ def fault_of_run(program, script, limits, found):
     wanted = answer(lambda: replay(program, script, found[1], limits))
     if found == wanted:
         return None
-    status, _, err = wanted if wanted[0] == 14 and found[0] in (0, 9, 10) else found
-    return f"status {status}, `{err.decode(errors='replace').strip()}`"
+    if wanted[0] == 14 and found[0] in (0, 9, 10):
+        return wanted[2].decode().strip().removeprefix("felm: ")
+    return f"status {found[0]}, `{found[2].decode(errors='replace').strip()}`"
 
 
 SYNC_OPTIONS = ("turn-steps", "stage-steps", "journal")
