@@ -534,6 +534,11 @@ def read_limit(word, most):
     return int(digits)
 
 
+def limits_of(given):
+    """The limits that options give."""
+    return Limits(**{name.replace("-", "_"): value for name, value in given.items() if name in SYNC_OPTIONS})
+
+
 def load(name, most=MOST_BYTES):
     try:
         with open(name, "rb") as file:
@@ -555,7 +560,7 @@ def answer(work):
 
 def do(command, files, given):
     """The text for standard output; a Fault where there is none."""
-    limits = Limits(**{name.replace("-", "_"): value for name, value in given.items() if name in SYNC_OPTIONS})
+    limits = limits_of(given)
     texts = [load(name, MOST_RESULT_BYTES if place == 2 else MOST_BYTES) for place, name in enumerate(files)]
     if command == "run":
         return any_run(*texts, limits, given.get("seed"))
