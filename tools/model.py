@@ -266,9 +266,11 @@ class Judge:
     def text(self):
         """What a run leaves whose text this is, as `text_of_run` gives it."""
         header = self.line()
-        if header != "felm-stopped 1":
+        if header == "felm-stopped 1":
+            stop = self.stopped()
+        else:
             self.expect(header, "felm-result 1")
-        stop = self.stopped() if header == "felm-stopped 1" else self.result()
+            stop = self.result()
         self.number += 1
         if self.lines[self.number - 1:] != [""]:
             self.refuse("it stands behind the closing line")
@@ -307,9 +309,10 @@ class Judge:
 
     def may_stop(self, k, position):
         """Whether a run with these events may stop at a node and a position."""
-        if position == 0 or k >= len(self.journal.graph.nodes) or position > len(self.journal.events):
-            return position == 0 and k == self.meaning.gap(0)
-        return self.meaning.is_over(k, position)
+        if position == 0:
+            return k == self.meaning.gap(0)
+        known = k < len(self.journal.graph.nodes) and position <= len(self.journal.events)
+        return known and self.meaning.is_over(k, position)
 
     def refuse_gap(self):
         """Refuses a line of a result where a message is missing."""
@@ -318,12 +321,13 @@ class Judge:
 
     def enter(self, line):
         """Lets the event enter that a line begins with."""
+        graph, possible = self.journal.graph, self.journal.possible()
         position, source, value = (line.split(" ") + ["", ""])[:3]
         if position != str(len(self.journal.events) + 1):
             self.refuse(f"event {len(self.journal.events) + 1} has to stand here")
         if len(self.journal.events) == self.limits.journal:
             self.refuse(f"the journal has at most {self.limits.journal} events")
-        event = next((event for event in self.journal.possible() if self.journal.graph.source_text(event[0]) == source), None)
+        event = next((event for event in possible if graph.source_text(event[0]) == source), None)
         if event is None:
             self.refuse(self.why_not(source))
         if value != value_text(event[1]):
@@ -466,7 +470,8 @@ def any_run(program, script, limits, seed=None):
 
 
 def replay(program, script, text, limits):
-    """What a run leaves whose text this is, as `sync` does it for the plain run; a Fault of status 14 where there is none."""
+    """What a run leaves whose text this is, as `sync` does it for the plain run; a Fault of status 14 where there is no such
+    run."""
     return Judge(*read_plan(program, script, limits), limits, text).text()
 
 
