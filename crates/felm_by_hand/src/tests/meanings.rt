@@ -1,5 +1,5 @@
 //! Defaults, and the parts of plans.
-use super::texts::{X, limits};
+use super::texts::limits;
 use crate::plan_of_texts;
 use felm_graph::is_source;
 use felm_meaning::{Job, Plan, Preset, defaults, job_of, same_plan};
