@@ -1,0 +1,22 @@
+-- What a bench answers.
+use Rattle.std.specs.Prelude.{ℕ}
+use Rattle.felm_meaning.specs.declared.outcome.Outcome.{Outcome}
+use Rattle.felm_meaning.specs.declared.outcome.Outcome.TheVariants.{Sent, Over}
+use Rattle.felm_engine.specs.declared.answers.Entered.{Entered}
+use Rattle.felm_engine.specs.declared.answers.Entered.TheVariants as entered
+use Rattle.felm_engine.specs.declared.answers.Fed.{Fed}
+use Rattle.felm_engine.specs.declared.answers.Fed.TheVariants as fed
+use Rattle.felm_engine.specs.declared.answers.Deposit.{Deposit}
+use Rattle.felm_engine.specs.declared.answers.Deposit.TheVariants.{Settled, Reopened}
+
+-- how many messages a deposit settles: one where it settles a turn that sends one
+abbrev pub settled_by : Outcome → Deposit → ℕ
+settled_by (Sent message) Settled = 1
+settled_by (Sent message) Reopened = 0
+settled_by Over answer = 0
+
+-- what a feed answers where its event's entry answers this
+abbrev pub fed_of : Entered → Fed
+fed_of (entered.At position) = fed.At position
+fed_of entered.NoRoom = fed.NoRoom
+fed_of entered.Full = fed.Full
