@@ -1,10 +1,11 @@
-//! Equality of plans.
+//! Equality of plans, and of what turns are made of. Nothing here takes memory.
 ghost use Rattle.std.specs.Prelude.{◌≡◌, ◌↔◌, IsTrue};
 ghost use Rattle.felm_meaning.specs.Plans.{SamePlan};
 
+use crate::job::Job;
 use crate::plan::Plan;
 use felm_graph::{Graph, Node, NodeKind};
-use felm_term::{Event, InputDecl, Limits, Value, same_function, same_ty};
+use felm_term::{Event, InputDecl, Limits, Message, Value, same_function, same_ty};
 
 /// Whether two plans are equal.
 pub fn same_plan(left: &Plan, right: &Plan) -> bool
@@ -13,6 +14,56 @@ pub fn same_plan(left: &Plan, right: &Plan) -> bool
     same_limits(&left.limits, &right.limits)
         && same_graph(&left.graph, &right.graph)
         && same_events(left.script.as_slice(), right.script.as_slice())
+}
+
+/// Whether two values are equal: of one kind, and with equal parts. As closed terms alone two values
+/// of different kinds might be equal.
+pub fn equal_values(left: &Value, right: &Value) -> bool
+    ensures { IsTrue result ↔ (left.now ≡ right.now) }
+{
+    match (left, right) {
+        (Value::Unit, Value::Unit) => true,
+        (Value::Int(number), Value::Int(other)) => *number == *other,
+        (Value::Fun(function), Value::Fun(other)) => same_function(function, other),
+        _ => false,
+    }
+}
+
+/// Whether two messages are equal: of one kind, with equal values.
+pub fn equal_messages(left: &Message, right: &Message) -> bool
+    ensures { IsTrue result ↔ (left.now ≡ right.now) }
+{
+    match (left, right) {
+        (Message::Change(value), Message::Change(other)) => equal_values(value, other),
+        (Message::NoChange(value), Message::NoChange(other)) => equal_values(value, other),
+        _ => false,
+    }
+}
+
+/// Whether two lists of messages are equal: as many, each equal to the one at its place.
+pub fn equal_message_lists(left: &[Message], right: &[Message]) -> bool
+    ensures { IsTrue result ↔ (left.now ≡ right.now) }
+{
+    if left.len() != right.len() {
+        return false;
+    }
+    for (place, message) in left.iter().enumerate() {
+        if !equal_messages(message, &right[place]) {
+            return false;
+        }
+    }
+    true
+}
+
+/// Whether two jobs are equal: of one kind, with equal functions.
+pub fn equal_jobs(left: &Job, right: &Job) -> bool
+    ensures { IsTrue result ↔ (left.now ≡ right.now) }
+{
+    match (left, right) {
+        (Job::Lift { function }, Job::Lift { function: other }) => equal_values(function, other),
+        (Job::Foldp { function }, Job::Foldp { function: other }) => equal_values(function, other),
+        _ => false,
+    }
 }
 
 fn same_limits(left: &Limits, right: &Limits) -> bool
@@ -47,18 +98,6 @@ fn same_event(left: &Event, right: &Event) -> bool
     ensures { IsTrue result ↔ (left.now ≡ right.now) }
 {
     left.source == right.source && equal_values(&left.value, &right.value)
-}
-
-// Two values are equal where they are of one kind. As terms alone they might be equal otherwise.
-fn equal_values(left: &Value, right: &Value) -> bool
-    ensures { IsTrue result ↔ (left.now ≡ right.now) }
-{
-    match (left, right) {
-        (Value::Unit, Value::Unit) => true,
-        (Value::Int(number), Value::Int(other)) => *number == *other,
-        (Value::Fun(function), Value::Fun(other)) => same_function(function, other),
-        _ => false,
-    }
 }
 
 fn same_nodes(left: &[Node], right: &[Node]) -> bool

@@ -18,7 +18,7 @@ mod turn_inputs;
 
 pub use call::{call_among, call_on_two};
 pub use done::{Done, compute};
-pub use equality::same_plan;
+pub use equality::{equal_jobs, equal_message_lists, equal_messages, equal_values, same_plan};
 pub use history::{History, RunEnd};
 pub use job::{Job, job_of};
 pub use laws::{
