@@ -1,5 +1,5 @@
 //! Turns come back.
-ghost use Rattle.std.specs.Prelude.{◌≡◌, ◌↔◌, ◌<◌, ℕ, suc, true, Some, None, length, IsTrue, IfOk, OnOk, OnErr, IsOk};
+ghost use Rattle.std.specs.Prelude.{◌≡◌, ◌↔◌, ◌<◌, ◌==◌, ℕ, suc, true, if◌then◌else◌, Some, None, length, IsTrue, IfOk, OnOk, OnErr, IsOk};
 ghost use Rattle.felm_term.specs.Values.{value_of, IsPlain};
 ghost use Rattle.felm_meaning.specs.OfPlans.{msg_for};
 ghost use Rattle.felm_meaning.specs.Step.{step};
@@ -89,7 +89,7 @@ impl Engine {
         ensures plain { IsPlain (value_of message.now) → IsOk result }
     {
         let kept = value_of(message).copy()?;
-        let output = message.copy()?;
+        let shown = self.shown(node, message)?;
         self.edges.prepare(node, message)?;
         if let Message::Change(value) = message {
             self.waiting.prepare(self.asyncs.over(node), value)?;
@@ -97,8 +97,8 @@ impl Engine {
         }
         self.edges.put(node);
         self.edges.drop_heads(node);
-        if self.plan.graph.main() == node {
-            let _ = self.outputs.push(output);
+        if let Some(shown) = shown {
+            let _ = self.outputs.push(shown);
         }
         self.kept[node as usize] = kept;
         self.done[node as usize] += 1;
@@ -106,6 +106,18 @@ impl Engine {
         self.turns_out -= 1;
         self.turns_settled += 1;
         Ok(())
+    }
+
+    // A copy of a node's message for the outputs, if the node is shown.
+    fn shown(&self, node: u32, message: &Message) -> Result<Option<Message>, Memory>
+        ensures value { IfOk result (λ shown. shown ≡ (if self.now.plan.graph.main == node then Some message.now else None)) }
+        ensures plain { IsPlain (value_of message.now) → IsOk result }
+    {
+        if self.plan.graph.main() == node {
+            Ok(Some(message.copy()?))
+        } else {
+            Ok(None)
+        }
     }
 
     // The turn that is out is over its budget.
