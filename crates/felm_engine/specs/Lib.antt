@@ -1,1 +1,7 @@
 pub mod Bench
+pub mod EngineValue
+pub mod Lists
+pub mod Queued
+pub mod Answers
+pub mod Inside
+pub mod Heads
