@@ -1,7 +1,7 @@
 -- Loops over a list of sources: what holds of the first of them.
 use Rattle.std.proofs.Common.{◌≡◌, ℕ, ◌+◌, ◌-◌, ◌<◌, ◌≤◌, ◌⊎◌, inl, inr, List, [], ◌∷◌, ◌++◌, Some, None, length, set, refl, sym, ap, ◌∙◌, subst, arith}
 use Rattle.std.specs.List.{slice_get, All}
-use Rattle.std.specs.Option.{IsSome}
+use Rattle.std.specs.Option.{IsSome, option_and_then}
 use Rattle.std.proofs.lemmas.Option.{same_Some, none-some, slice_get_within, slice_get_read, get_or_from_slice_get}
 use Rattle.std.proofs.lemmas.Bool.{cases_eq, cases_lt}
 use Rattle.std.proofs.lemmas.List.{length-set, get_or-set_same, get_or-set_other}
@@ -10,7 +10,9 @@ use Rattle.felm_term.specs.declared.value.Value.{Value}
 use Rattle.felm_term.specs.declared.message.Message.{Message}
 use Rattle.felm_term.specs.declared.event.Event.{Event}
 use Rattle.felm_graph.specs.declared.node.Node.{Node}
-use Rattle.felm_meaning.specs.Nodes.{inner}
+use Rattle.felm_graph.specs.declared.node.NodeKind.{NodeKind}
+use Rattle.felm_graph.specs.declared.node.NodeKind.TheVariants as kind
+use Rattle.felm_meaning.specs.Nodes.{inner, inner_of_kind}
 use Rattle.felm_edges.specs.EdgesValue.{EdgesValue, IsWired, ReadsIn, edge_in, prepared_in, HasRoomIn}
 use Rattle.felm_edges.specs.Changes.{PreparedFrom, PutFrom}
 use Rattle.felm_core.specs.Positions.{done_at}
@@ -56,6 +58,20 @@ pub all_at : (P : ℕ → Type 0) (xs : List ℕ) (i k : ℕ) → All P xs → s
 all_at P xs i k h e =
     let l : i < length xs = slice_get_within xs i k e in
     subst P (get_or_from_slice_get xs i k 0 e) (All-get_or P xs i 0 l h)
+
+-- ---- inner signals
+
+pub inner_there : (nodes : List Node) (k : ℕ) (node : Node) (x : ℕ) → slice_get nodes k ≡ Some node → node.kind ≡ kind.Async x → inner nodes k ≡ Some x
+inner_there nodes k node x h e = ap (option_and_then (λ (n : Node). inner_of_kind n.kind)) h ∙ ap inner_of_kind e
+
+pub inner_none : (nodes : List Node) (k : ℕ) (node : Node) → slice_get nodes k ≡ Some node → ((x : ℕ) → node.kind ≡ kind.Async x → ⊥) → inner nodes k ≡ None
+inner_none nodes k node h n = ap (option_and_then (λ (m : Node). inner_of_kind m.kind)) h ∙ go node.kind refl
+  where
+    go : (w : NodeKind) → node.kind ≡ w → inner_of_kind w ≡ None
+    go (kind.Input number) e = refl
+    go (kind.Lift f arguments) e = refl
+    go (kind.Foldp f base argument) e = refl
+    go (kind.Async x) e = absurd (n x e)
 
 -- ---- prepared messages
 

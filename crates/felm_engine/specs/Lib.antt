@@ -5,3 +5,4 @@ pub mod Queued
 pub mod Answers
 pub mod Inside
 pub mod Heads
+pub mod Sources

@@ -10,6 +10,7 @@ mod engine;
 mod heads;
 mod lists;
 mod queue;
+mod sources;
 mod waiting;
 
 pub use answers::{Claim, Deposit, Entered, Fed, Stop};
