@@ -1,1 +1,4 @@
 pub mod EachSource
+pub mod OverLists
+pub mod SourceLists
+pub mod Entering

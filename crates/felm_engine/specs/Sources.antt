@@ -1,9 +1,11 @@
 -- What an event does at the sources of a graph, whose nodes stand in a list.
-use Rattle.std.specs.Prelude.{◌≡◌, ℕ, ◌-◌, ◌<◌, ◌≤◌, List, [], ◌∷◌, ◌++◌, Some, length, slice_get, slice_index_or}
+use Rattle.std.specs.Prelude.{◌≡◌, ℕ, ◌-◌, ◌<◌, ◌≤◌, List, [], ◌∷◌, ◌++◌, Option, Some, None, if◌then◌else◌, length, slice_get, slice_index_or}
 use Rattle.felm_term.specs.declared.value.Value.{Value}
 use Rattle.felm_term.specs.declared.message.Message.{Message}
 use Rattle.felm_term.specs.declared.event.Event.{Event}
 use Rattle.felm_graph.specs.declared.node.Node.{Node}
+use Rattle.felm_graph.specs.GraphValue.{GraphValue}
+use Rattle.felm_graph.specs.Nodes.{is_source}
 use Rattle.felm_meaning.specs.Nodes.{inner}
 use Rattle.felm_edges.specs.EdgesValue.{EdgesValue, ReadsIn, edge_in, prepared_in}
 use Rattle.felm_core.specs.Positions.{done_at}
@@ -30,6 +32,12 @@ pub record PutAll (sources : List ℕ) (old new : EdgesValue) : Type 0 where
   pub put : (k r port : ℕ) (m : Message) → IsIn sources k → ReadsIn old r port k → prepared_in old k ≡ Some m
       → edge_in new r port ≡ edge_in old r port ++ m ∷ []
   pub stays : (k r port : ℕ) → ¬ IsIn sources k → ReadsIn old r port k → edge_in new r port ≡ edge_in old r port
+
+-- ---- outputs
+
+-- the message of the shown node at an event, if that node is a source with this value
+abbrev pub shown_by : GraphValue → Event → Value → Option Message
+shown_by g e v = if is_source g.nodes g.main then Some (message_by e g.main v) else None
 
 -- ---- counts
 
