@@ -4,7 +4,7 @@ ghost use Rattle.felm_term.specs.Values.{value_of, IsPlain};
 ghost use Rattle.felm_meaning.specs.OfPlans.{msg_for};
 ghost use Rattle.felm_meaning.specs.Step.{step};
 ghost use Rattle.felm_meaning.specs.Nodes.{job_of_kind};
-ghost use Rattle.felm_core.specs.Moves.{Send, Stop, Reopen};
+ghost use Rattle.felm_core.specs.Moves as moves;
 ghost use Rattle.felm_core.specs.Positions.{done_at, is_out, HasTurn};
 ghost use Rattle.felm_engine.specs.Answers.{planned, Moved, IsTurnAt, IsTurnOut, DepositedAs, CarriesFunction, all_reopened};
 
@@ -84,7 +84,7 @@ impl Engine {
     fn send(&mut self, node: u32, message: &Message) -> Result<(), Memory>
         requires out { is_out self.old.position.out node ≡ true }
         requires sent { msg_for (planned self.old) self.old.position.journal node (suc (done_at self.old.position.done node)) ≡ Some message.now }
-        ensures ok { OnOk result (Moved self.old (Send node) self.new) }
+        ensures ok { OnOk result (Moved self.old (moves.Send node) self.new) }
         ensures err { OnErr result (self.new ≡ self.old) }
         ensures plain { IsPlain (value_of message.now) → IsOk result }
     {
@@ -124,7 +124,7 @@ impl Engine {
     fn halt(&mut self, node: u32)
         requires out { is_out self.old.position.out node ≡ true }
         requires over { msg_for (planned self.old) self.old.position.journal node (suc (done_at self.old.position.done node)) ≡ None }
-        ensures { Moved self.old (Stop node) self.new }
+        ensures { Moved self.old (moves.Stop node) self.new }
     {
         if self.stop.is_none() {
             let position = self.done[node as usize] + 1;
@@ -136,7 +136,7 @@ impl Engine {
 
     // A turn of the node that is out is free again.
     fn reopen(&mut self, node: u32)
-        ensures { Moved self.old (Reopen node) self.new }
+        ensures { Moved self.old (moves.Reopen node) self.new }
     {
         if (node as usize) < self.out.len() && self.out[node as usize] {
             self.out[node as usize] = false;

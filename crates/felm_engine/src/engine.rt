@@ -12,7 +12,7 @@ use std::marker::Model;
 
 /// A run of a plan whose nodes take their turns at different events, in any order. Contracts see the
 /// plan and the position of the run: all else is the meaning of the plan there.
-#[derive(Debug, Drop)]
+#[derive(Drop)]
 pub struct Engine {
     pub(crate) plan: Plan,
     pub(crate) journal: Events,
