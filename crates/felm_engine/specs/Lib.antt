@@ -3,5 +3,6 @@ pub mod EngineValue
 pub mod Lists
 pub mod Queued
 pub mod Answers
+pub mod Stops
 pub mod Inside
 pub mod Heads

@@ -60,7 +60,7 @@ impl Engine {
     ghost use Rattle.felm_core.specs.Contents.{settled_at, waiting_at, outputs_at};
     ghost use Rattle.felm_core.specs.Moves.{beginning};
     ghost use Rattle.felm_engine.specs.Answers.{planned, turns_out_at, NoneOut};
-    ghost use Rattle.felm_engine.specs.Inside.{stop_of};
+    ghost use Rattle.felm_engine.specs.Stops.{stop_of};
 
     /// An engine at the beginning of a plan's run, by the defaults of the plan's nodes.
     pub fn make(alloc: Global, plan: Plan, defaults: &Values) -> Result<Engine, Memory>
