@@ -39,24 +39,6 @@ use Rattle.felm_engine.specs.Sources.{SameEdges, AreDue, PutAll, CountedAs, Grow
 use Rattle.felm_engine.proofs.OverLists.{asyncs-over, over-asyncs}
 use Rattle.felm_engine.proofs.SourceLists.{source_there, there_source, no_source}
 
--- ---- room
-
--- edges that hold what lies at a position have room for a node exactly where the node has room
-pub room_in : (s : PlanValue) (c : Position) (edges : EdgesValue) (parts : Parts) (k : ℕ) → IsGraph s.graph → IsSound s c
-    → edges.wiring ≡ wiring_of s.graph.nodes → edges.capacity ≡ s.capacity → Holds s c (edge_in edges) parts → HasRoomIn edges k ↔ HasRoom s c.done k
-room_in s c edges parts k graph sound wiring capacity holds = (
-  λ f. (room_by_edges s c graph sound k).1 (λ r port h.
-    let l : length (edge_in edges r port) < edges.capacity = f r port (wired r port h) in
-    omega (arith, ap length (holds.edges_are r port k h), capacity)),
-  λ f r port h.
-    let q : Reads s.graph.nodes r port k = wired_reads s.graph.nodes r port k (subst (λ (w : List (List ℕ)). IsWired w r port k) wiring h) in
-    let l : length (edge_at s c k r) < s.capacity = (room_by_edges s c graph sound k).0 f r port q in
-    omega (arith, ap length (holds.edges_are r port k q), capacity),
-)
-  where
-    wired : (r port : ℕ) → Reads s.graph.nodes r port k → ReadsIn edges r port k
-    wired r port h = subst (λ (w : List (List ℕ)). IsWired w r port k) (sym wiring) (reads_wired s.graph.nodes r port k h)
-
 -- ---- what an engine holds
 
 pub record Held : Type 0 where
@@ -311,4 +293,4 @@ entered_leads s c d e place source typed waits q = go (inner s.graph.nodes e.sou
         → Leads s c (option_map_or (λ x. Enter e.source) o (Feed e.source e.value)) d
     go None h (inl i) = (place, i, typed, q)
     go None h (inr w) = absurd (none-some w.0 (sym h ∙ w.1))
-    go (Some x) h w = (place, e.value, waits x h, q)
+    go (Some x) h w = (place, (e.value, waits x h, q))

@@ -1,4 +1,9 @@
-pub mod EachSource
 pub mod OverLists
+pub mod Queuing
+pub mod Flags
+pub mod Edged
+pub mod Moving
+pub mod Counting
+pub mod EachSource
 pub mod SourceLists
 pub mod Entering

@@ -16,53 +16,51 @@ use Rattle.felm_engine.proofs.OverLists.{get_push, get_more, get_pushed}
 pub sources-are : (nodes : List Node) (n i k : ℕ) → slice_get (sources_of nodes n) i ≡ Some k → (k < n) × (is_source nodes k ≡ true)
 unfolding sources_of
 sources-are nodes zero i k h = absurd (none-some k h)
-sources-are nodes (suc n) i k h = go (is_source nodes n) refl h
+sources-are nodes (suc n) i k h = go (λ e. sources-are nodes n i k e) (is_source nodes n) refl h
   where
     later : (k < n) × (is_source nodes k ≡ true) → (k < suc n) × (is_source nodes k ≡ true)
     later p = let l : k < n = p.0 in (omega arith, p.1)
 
-    go : (t : Bool) → is_source nodes n ≡ t → slice_get (sources_of nodes n ++ cond t (n ∷ []) []) i ≡ Some k → (k < suc n) × (is_source nodes k ≡ true)
-    go true q h = elim (get_push (sources_of nodes n) n k i h) [
-      | inl e ↦ later (sources-are nodes n i k e)
+    go : (slice_get (sources_of nodes n) i ≡ Some k → (k < n) × (is_source nodes k ≡ true)) → (t : Bool) → is_source nodes n ≡ t
+        → slice_get (sources_of nodes n ++ cond t (n ∷ []) []) i ≡ Some k → (k < suc n) × (is_source nodes k ≡ true)
+    go ih true q h = elim (get_push (sources_of nodes n) n k i h) [
+      | inl e ↦ later (ih e)
       | inr e ↦ (omega (arith, e.1), ap (is_source nodes) e.1 ∙ q)
     ]
-    go false q h = later (sources-are nodes n i k (ap (λ (xs : List ℕ). slice_get xs i) (sym (append-nil (sources_of nodes n))) ∙ h))
+    go ih false q h = later (ih (ap (λ (xs : List ℕ). slice_get xs i) (sym (append-nil (sources_of nodes n))) ∙ h))
 
 -- and each source is there
 are-sources : (nodes : List Node) (n k : ℕ) → k < n → is_source nodes k ≡ true → IsIn (sources_of nodes n) k
 unfolding sources_of
 are-sources nodes zero k l h = absurd (omega arith)
-are-sources nodes (suc n) k l h = go (cases_eq k n) (is_source nodes n) refl
+are-sources nodes (suc n) k l h = go (λ m. are-sources nodes n k m h) (cases_eq k n) (is_source nodes n) refl
   where
-    go : (k ≡ n) ⊎ (k ≡ n → ⊥) → (t : Bool) → is_source nodes n ≡ t → IsIn (sources_of nodes n ++ cond t (n ∷ []) []) k
-    go (inl e) true q = (length (sources_of nodes n), get_pushed (sources_of nodes n) n ∙ ap (λ (y : ℕ). Some y) (sym e))
-    go (inl e) false q = absurd (false≢true (sym q ∙ (ap (is_source nodes) (sym e) ∙ h)))
-    go (inr d) true q = let p = are-sources nodes n k (omega arith) h in (p.0, get_more (sources_of nodes n) n k p.0 p.1)
-    go (inr d) false q =
-        let p = are-sources nodes n k (omega arith) h in (p.0, ap (λ (xs : List ℕ). slice_get xs p.0) (append-nil (sources_of nodes n)) ∙ p.1)
+    go : (k < n → IsIn (sources_of nodes n) k) → (k ≡ n) ⊎ (k ≡ n → ⊥) → (t : Bool) → is_source nodes n ≡ t
+        → IsIn (sources_of nodes n ++ cond t (n ∷ []) []) k
+    go ih (inl e) true q = (length (sources_of nodes n), get_pushed (sources_of nodes n) n ∙ ap (λ (y : ℕ). Some y) (sym e))
+    go ih (inl e) false q = absurd (false≢true (sym q ∙ (ap (is_source nodes) (sym e) ∙ h)))
+    go ih (inr d) true q = let p : IsIn (sources_of nodes n) k = ih (omega arith) in (p.0, get_more (sources_of nodes n) n k p.0 p.1)
+    go ih (inr d) false q =
+        let p : IsIn (sources_of nodes n) k = ih (omega arith) in
+        (p.0, ap (λ (xs : List ℕ). slice_get xs p.0) (append-nil (sources_of nodes n)) ∙ p.1)
 
 pub sources-distinct : (nodes : List Node) (n : ℕ) → AreDistinct (sources_of nodes n)
 unfolding sources_of
 sources-distinct nodes zero i j a h k = absurd (none-some a h)
-sources-distinct nodes (suc n) i j a h k = go (is_source nodes n) h k
+sources-distinct nodes (suc n) i j a h k = go (sources-distinct nodes n i j a) (is_source nodes n) h k
   where
-    before : List ℕ
-    before = sources_of nodes n
-
-    less : (i : ℕ) → slice_get before i ≡ Some a → a < n
+    less : (i : ℕ) → slice_get (sources_of nodes n) i ≡ Some a → a < n
     less i e = (sources-are nodes n i a e).0
 
-    both : (slice_get before i ≡ Some a) ⊎ ((i ≡ length before) × (a ≡ n)) → (slice_get before j ≡ Some a) ⊎ ((j ≡ length before) × (a ≡ n)) → i ≡ j
-    both (inl e) (inl f) = sources-distinct nodes n i j a e f
-    both (inl e) (inr f) = absurd (omega (arith, less i e, f.1))
-    both (inr e) (inl f) = absurd (omega (arith, less j f, e.1))
-    both (inr e) (inr f) = e.0 ∙ sym f.0
-
-    go : (t : Bool) → slice_get (before ++ cond t (n ∷ []) []) i ≡ Some a → slice_get (before ++ cond t (n ∷ []) []) j ≡ Some a → i ≡ j
-    go true h k = both (get_push before n a i h) (get_push before n a j k)
-    go false h k =
-        sources-distinct nodes n i j a (ap (λ (xs : List ℕ). slice_get xs i) (sym (append-nil before)) ∙ h)
-        (ap (λ (xs : List ℕ). slice_get xs j) (sym (append-nil before)) ∙ k)
+    go : (slice_get (sources_of nodes n) i ≡ Some a → slice_get (sources_of nodes n) j ≡ Some a → i ≡ j) → (t : Bool)
+        → slice_get (sources_of nodes n ++ cond t (n ∷ []) []) i ≡ Some a → slice_get (sources_of nodes n ++ cond t (n ∷ []) []) j ≡ Some a → i ≡ j
+    go ih true h k = elim (get_push (sources_of nodes n) n a i h) [
+      | inl e ↦ elim (get_push (sources_of nodes n) n a j k) [ inl f ↦ ih e f | inr f ↦ absurd (omega (arith, less i e, f.1)) ]
+      | inr e ↦ elim (get_push (sources_of nodes n) n a j k) [ inl f ↦ absurd (omega (arith, less j f, e.1)) | inr f ↦ e.0 ∙ sym f.0 ]
+    ]
+    go ih false h k =
+        ih (ap (λ (xs : List ℕ). slice_get xs i) (sym (append-nil (sources_of nodes n))) ∙ h)
+        (ap (λ (xs : List ℕ). slice_get xs j) (sym (append-nil (sources_of nodes n))) ∙ k)
 
 -- ---- the list of all sources
 

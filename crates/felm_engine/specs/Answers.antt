@@ -100,7 +100,7 @@ SomeIsReady engine = (k : ℕ) × IsReady (planned engine) engine.position k
 -- this turn is out: it is the one that its node has, and the node's turn is out
 pub record IsTurnOut (engine : EngineValue) (turn : TurnValue) : Type 0 where
   pub out : is_out engine.position.out turn.node ≡ true
-  pub at_node : IsTurnAt (planned engine) engine.position turn.node turn
+  pub has : IsTurnAt (planned engine) engine.position turn.node turn
 
 -- the move by which a computed turn of node k is settled
 abbrev pub settling : ℕ → Outcome → Move

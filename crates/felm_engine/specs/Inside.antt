@@ -1,22 +1,18 @@
 -- What the fields of an engine stand for, and what they keep.
-use Rattle.std.specs.Prelude.{◌≡◌, ℕ, ◌≤◌, List, Option, length, map}
-use Rattle.std.specs.Option.{option_map}
+use Rattle.std.specs.Prelude.{◌≡◌, ℕ, ◌≤◌, List, length, map}
 use Rattle.felm_graph.specs.Graphs.{IsGraph}
 use Rattle.felm_meaning.specs.PlanValue.{PlanValue}
 use Rattle.felm_meaning.specs.Plans.{plan_of}
 use Rattle.felm_meaning.specs.Types.{EventsFit}
-use Rattle.felm_core.specs.Positions.{StopValue, Position, IsSound}
+use Rattle.felm_core.specs.Positions.{Position, IsSound}
 use Rattle.felm_core.specs.Holds.{Parts, Spares, Holds, KeepsRoom}
 use Rattle.felm_edges.specs.EdgesValue.{wiring_of, edge_in}
 use Rattle.felm_engine.specs.EngineValue.{EngineValue}
 use Rattle.felm_engine.specs.Answers.{turns_out_at}
 use Rattle.felm_engine.specs.Lists.{AreAsyncs, sources_of}
 use Rattle.felm_engine.specs.Queued.{QueueValue, queue_at}
-use Rattle.felm_engine.specs.declared.answers.Stop.{Stop}
+use Rattle.felm_engine.specs.Stops.{stop_of}
 use Rattle.felm_engine.specs.declared.engine.Engine.TheInside.{Inside}
-
-abbrev pub stop_of : Option Stop → Option StopValue
-stop_of stop = option_map (λ s. record { node = s.node; position = s.position }) stop
 
 abbrev pub position_of : Inside → Position
 position_of a = record { journal = a.journal.items; done = a.done.items; out = a.out.items; stop = stop_of a.stop }

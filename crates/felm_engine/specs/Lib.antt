@@ -3,6 +3,7 @@ pub mod EngineValue
 pub mod Lists
 pub mod Queued
 pub mod Answers
+pub mod Stops
 pub mod Inside
 pub mod Heads
 pub mod Sources

@@ -1,6 +1,8 @@
 -- Values that wait in queues.
-use Rattle.std.specs.Prelude.{◌≡◌, ◌≢◌, ℕ, ◌-◌, ◌≤◌, List, [], ◌∷◌, ◌++◌, Option, Some, None, length, drop, slice_get, slice_index_or}
+use Rattle.std.specs.Prelude.{◌≡◌, ◌≢◌, ℕ, suc, ◌-◌, ◌≤◌, List, [], ◌∷◌, ◌++◌, Option, Some, None, length, drop, slice_get, slice_index_or}
 use Rattle.felm_term.specs.declared.value.Value.{Value}
+use Rattle.felm_term.specs.declared.message.Message.{Message}
+use Rattle.felm_meaning.specs.Meaning.{changed_in}
 
 -- ---- one queue
 
@@ -18,9 +20,13 @@ put_value queue v = record { items = queue.items ++ v ∷ []; spare = queue.spar
 
 -- ---- the queues of all nodes
 
--- the queue of a node; past the last node it is empty and has no room
+-- an empty queue without room
+abbrev pub no_queue : QueueValue
+no_queue = record { items = []; spare = 0; prepared = None }
+
+-- the queue of a node; there is none past the last node
 abbrev pub queue_at : List QueueValue → ℕ → QueueValue
-queue_at queues k = slice_index_or queues k (record { items = []; spare = 0; prepared = None })
+queue_at queues k = slice_index_or queues k no_queue
 
 -- no two places have the same node
 abbrev pub AreDistinct : List ℕ → Type 0
@@ -45,6 +51,14 @@ pub record PutInto (nodes : List ℕ) (old new : List QueueValue) : Type 0 where
   pub lengths : length new ≡ length old
   pub put : (a : ℕ) (v : Value) → IsIn nodes a → (queue_at old a).prepared ≡ Some v → queue_at new a ≡ put_value (queue_at old a) v
   pub stays : (a : ℕ) → ¬ IsIn nodes a → queue_at new a ≡ queue_at old a
+
+-- where a message is a change, each of these nodes' queues has its value at its end, at the price of one place; the others stay
+pub record PassedOn (nodes : List ℕ) (m : Message) (old new : List QueueValue) : Type 0 where
+  pub lengths : length new ≡ length old
+  pub items : (a : ℕ) → IsIn nodes a → (queue_at new a).items ≡ (queue_at old a).items ++ changed_in (Some m)
+  pub spare : (a : ℕ) → IsIn nodes a → (queue_at old a).spare ≤ suc (queue_at new a).spare
+  pub other_items : (a : ℕ) → ¬ IsIn nodes a → (queue_at new a).items ≡ (queue_at old a).items
+  pub other_spare : (a : ℕ) → ¬ IsIn nodes a → (queue_at new a).spare ≡ (queue_at old a).spare
 
 -- the queue of a node has lost its first value, and has no less room; the others stay
 pub record TakenFrom (a : ℕ) (old new : List QueueValue) : Type 0 where

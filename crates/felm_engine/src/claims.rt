@@ -45,11 +45,13 @@ impl Engine {
         requires { node < length self.now.plan.graph.nodes }
         ensures { IsTrue result ↔ IsReady (planned self.now) self.now.position node }
     {
-        self.stop.is_none()
-            && !self.out[node as usize]
-            && !is_source(&self.plan.graph, node)
-            && self.edges.is_fed(node)
-            && self.edges.room(node)
+        if self.stop.is_some() || self.out[node as usize] {
+            return false;
+        }
+        if is_source(&self.plan.graph, node) || !self.edges.is_fed(node) {
+            return false;
+        }
+        self.edges.room(node)
     }
 
     // The least node that can.

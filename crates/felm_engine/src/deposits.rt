@@ -1,19 +1,22 @@
 //! Turns come back.
-ghost use Rattle.std.specs.Prelude.{◌≡◌, ◌↔◌, ◌<◌, ◌==◌, ℕ, suc, true, if◌then◌else◌, Some, None, length, IsTrue, IfOk, OnOk, OnErr, IsOk};
+ghost use Rattle.std.specs.Prelude.{◌≡◌, ◌↔◌, ◌<◌, ◌==◌, ℕ, suc, true, if◌then◌else◌, Some, None, length, IsTrue, IfOk, OnOk, OnErr, IsOk, IsSome, ◌+◌, ◌≤◌, ◌++◌};
+ghost use Rattle.std.specs.Option.{option_to_list};
 ghost use Rattle.felm_term.specs.Values.{value_of, IsPlain};
 ghost use Rattle.felm_meaning.specs.OfPlans.{msg_for};
 ghost use Rattle.felm_meaning.specs.Step.{step};
 ghost use Rattle.felm_meaning.specs.Nodes.{job_of_kind};
-ghost use Rattle.felm_core.specs.Moves.{Send, Stop, Reopen};
+ghost use Rattle.felm_core.specs.Moves as moves;
+ghost use Rattle.felm_core.specs.Moves.{stop_or};
 ghost use Rattle.felm_core.specs.Positions.{done_at, is_out, HasTurn};
 ghost use Rattle.felm_engine.specs.Answers.{planned, Moved, IsTurnAt, IsTurnOut, DepositedAs, CarriesFunction, all_reopened};
+ghost use Rattle.felm_engine.specs.Stops.{stop_of};
 
 use crate::answers::{Deposit, Stop};
 use crate::engine::Engine;
 use crate::heads::are_heads;
 use felm_graph::{NodeKind, arguments_of};
 use felm_meaning::{Done, Job, Outcome, Turn, equal_values};
-use felm_term::{Memory, Message, Value};
+use felm_term::{Memory, Message, Messages, Value};
 
 impl Engine {
     /// Takes back a computed turn. It is settled if it is out: if a turn of its node is out, at its
@@ -55,7 +58,10 @@ impl Engine {
         ensures { IsTrue result ↔ IsTurnOut self.now turn.now }
     {
         let node = turn.node() as usize;
-        node < self.out.len() && self.out[node] && self.has_turn(turn)
+        if node >= self.out.len() || !self.out[node] {
+            return false;
+        }
+        self.has_turn(turn)
     }
 
     // Whether it is the turn that its node has.
@@ -64,12 +70,20 @@ impl Engine {
         ensures { IsTrue result ↔ IsTurnAt (planned self.now) self.now.position turn.now.node turn.now }
     {
         let node = turn.node();
+        if turn.position() != self.done[node as usize] + 1 {
+            return false;
+        }
+        if turn.budget() != self.plan.limits.turn_steps {
+            return false;
+        }
+        if !is_job_of(turn.job(), &self.plan.graph.nodes()[node as usize].kind) {
+            return false;
+        }
+        if !equal_values(turn.previous(), &self.kept[node as usize]) {
+            return false;
+        }
         let ports = arguments_of(&self.plan.graph, node).len();
-        turn.position() == self.done[node as usize] + 1
-            && turn.budget() == self.plan.limits.turn_steps
-            && is_job_of(turn.job(), &self.plan.graph.nodes()[node as usize].kind)
-            && equal_values(turn.previous(), &self.kept[node as usize])
-            && are_heads(&self.edges, node, ports, turn.inputs().as_slice())
+        are_heads(&self.edges, node, ports, turn.inputs().as_slice())
     }
 
     // What a turn that is out comes to is its node's next message.
@@ -84,23 +98,18 @@ impl Engine {
     fn send(&mut self, node: u32, message: &Message) -> Result<(), Memory>
         requires out { is_out self.old.position.out node ≡ true }
         requires sent { msg_for (planned self.old) self.old.position.journal node (suc (done_at self.old.position.done node)) ≡ Some message.now }
-        ensures ok { OnOk result (Moved self.old (Send node) self.new) }
+        ensures ok { OnOk result (Moved self.old (moves.Send node) self.new) }
         ensures err { OnErr result (self.new ≡ self.old) }
         ensures plain { IsPlain (value_of message.now) → IsOk result }
     {
-        let kept = value_of(message).copy()?;
+        let value = value_of(message).copy()?;
         let shown = self.shown(node, message)?;
         self.edges.prepare(node, message)?;
-        if let Message::Change(value) = message {
-            self.waiting.prepare(self.asyncs.over(node), value)?;
-            self.waiting.put(self.asyncs.over(node));
-        }
+        self.waiting.pass_on(self.asyncs.over(node), message)?;
         self.edges.put(node);
         self.edges.drop_heads(node);
-        if let Some(shown) = shown {
-            let _ = self.outputs.push(shown);
-        }
-        self.kept[node as usize] = kept;
+        show(shown, &mut self.outputs);
+        self.kept[node as usize] = value;
         self.done[node as usize] += 1;
         self.out[node as usize] = false;
         self.turns_out -= 1;
@@ -124,24 +133,44 @@ impl Engine {
     fn halt(&mut self, node: u32)
         requires out { is_out self.old.position.out node ≡ true }
         requires over { msg_for (planned self.old) self.old.position.journal node (suc (done_at self.old.position.done node)) ≡ None }
-        ensures { Moved self.old (Stop node) self.new }
+        ensures { Moved self.old (moves.Stop node) self.new }
     {
-        if self.stop.is_none() {
-            let position = self.done[node as usize] + 1;
-            self.stop = Some(Stop { node, position });
-        }
+        let position = self.done[node as usize] + 1;
+        self.stop = first_stop(self.stop, Stop { node, position });
         self.out[node as usize] = false;
         self.turns_out -= 1;
     }
 
     // A turn of the node that is out is free again.
     fn reopen(&mut self, node: u32)
-        ensures { Moved self.old (Reopen node) self.new }
+        ensures { Moved self.old (moves.Reopen node) self.new }
     {
-        if (node as usize) < self.out.len() && self.out[node as usize] {
-            self.out[node as usize] = false;
+        let node = node as usize;
+        if node < self.out.len() && self.out[node] {
+            self.out[node] = false;
             self.turns_out -= 1;
         }
+    }
+}
+
+// What a node has sent is shown, if there is room for it.
+fn show(shown: Option<Message>, outputs: &mut Messages)
+    requires { IsSome shown → 0 < outputs.old.spare }
+    ensures items { outputs.new.items ≡ outputs.old.items ++ option_to_list shown }
+    ensures spare { outputs.old.spare ≤ outputs.new.spare + length (option_to_list shown) }
+{
+    if let Some(message) = shown {
+        let _ = outputs.push(message);
+    }
+}
+
+// The stop that was there, or this one.
+fn first_stop(stop: Option<Stop>, next: Stop) -> Option<Stop>
+    ensures { stop_of result ≡ stop_or (stop_of stop) (record { node = next.node; position = next.position }) }
+{
+    match stop {
+        Some(first) => Some(first),
+        None => Some(next),
     }
 }
 

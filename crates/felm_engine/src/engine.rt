@@ -12,7 +12,7 @@ use std::marker::Model;
 
 /// A run of a plan whose nodes take their turns at different events, in any order. Contracts see the
 /// plan and the position of the run: all else is the meaning of the plan there.
-#[derive(Debug, Drop)]
+#[derive(Drop)]
 pub struct Engine {
     pub(crate) plan: Plan,
     pub(crate) journal: Events,
@@ -60,7 +60,7 @@ impl Engine {
     ghost use Rattle.felm_core.specs.Contents.{settled_at, waiting_at, outputs_at};
     ghost use Rattle.felm_core.specs.Moves.{beginning};
     ghost use Rattle.felm_engine.specs.Answers.{planned, turns_out_at, NoneOut};
-    ghost use Rattle.felm_engine.specs.Inside.{stop_of};
+    ghost use Rattle.felm_engine.specs.Stops.{stop_of};
 
     /// An engine at the beginning of a plan's run, by the defaults of the plan's nodes.
     pub fn make(alloc: Global, plan: Plan, defaults: &Values) -> Result<Engine, Memory>

@@ -16,9 +16,7 @@ pub fn heads(edges: &Edges, node: u32, ports: usize) -> Result<TurnInputs, Memor
 {
     let mut inputs = TurnInputs::make();
     for port in 0..ports {
-        if let Some(message) = edges.head(node, port) {
-            inputs.push(message.copy()?);
-        }
+        inputs.push(head(edges, node, port).copy()?);
     }
     Ok(inputs)
 }
@@ -33,19 +31,21 @@ pub fn are_heads(edges: &Edges, node: u32, ports: usize, inputs: &[Message]) -> 
         return false;
     }
     for port in 0..ports {
-        if !is_head(edges, node, port, &inputs[port]) {
+        if !equal_messages(&inputs[port], head(edges, node, port)) {
             return false;
         }
     }
     true
 }
 
-fn is_head(edges: &Edges, node: u32, port: usize, input: &Message) -> bool
-    requires { port < length (read_in edges.now node) }
-    ensures { IsTrue result ↔ (slice_get (edge_in edges.now node port) 0 ≡ Some input.now) }
+// The first message of an edge that has one.
+fn head<'a>(edges: &'a Edges, node: u32, port: usize) -> &'a Message
+    requires port { port < length (read_in edges.now node) }
+    requires fed { IsFedIn edges.now node }
+    ensures { slice_get (edge_in edges.now node port) 0 ≡ Some result.now }
 {
     match edges.head(node, port) {
-        Some(message) => equal_messages(message, input),
-        None => false,
+        Some(message) => message,
+        None => unreachable!(),
     }
 }

@@ -1,9 +1,9 @@
-ghost use Rattle.std.specs.Prelude.{◌≡◌, ◌<◌, ◌≤◌, ◌^◌, ℕ, [], length, drop, slice_get, Some, option_copied, IfOk, OnOk, IsOk};
-ghost use Rattle.felm_term.specs.Values.{IsPlain};
-ghost use Rattle.felm_engine.specs.Queued.{queue_at, AreDistinct, SameQueues, ArePrepared, PutInto, TakenFrom, ReservedIn};
+ghost use Rattle.std.specs.Prelude.{◌≡◌, ◌<◌, ◌≤◌, ◌^◌, ℕ, [], length, drop, slice_get, Some, option_copied, IfOk, OnOk, OnErr, IsOk};
+ghost use Rattle.felm_term.specs.Values.{value_of, IsPlain};
+ghost use Rattle.felm_engine.specs.Queued.{queue_at, AreDistinct, SameQueues, ArePrepared, PutInto, PassedOn, TakenFrom, ReservedIn};
 
 use crate::queue::Queue;
-use felm_term::{Memory, Value};
+use felm_term::{Memory, Message, Value};
 use std::alloc::Global;
 use std::marker::Model;
 
@@ -83,6 +83,24 @@ impl Waiting {
         for node in nodes {
             self.queues[*node as usize].put();
         }
+    }
+
+    /// Puts the value of a message that is a change at the end of the queue of each of these nodes,
+    /// where there is room for it. It can't be refused where the value is no function; after `Memory`
+    /// the queues have what they had.
+    pub fn pass_on(&mut self, nodes: &[u32], message: &Message) -> Result<(), Memory>
+        requires within { (i a : ℕ) → slice_get nodes.now i ≡ Some a → a < length self.old }
+        requires distinct { AreDistinct nodes.now }
+        requires room { (i a : ℕ) → slice_get nodes.now i ≡ Some a → 0 < (queue_at self.old a).spare }
+        ensures ok { OnOk result (PassedOn nodes.now message.now self.old self.new) }
+        ensures err { OnErr result (SameQueues self.old self.new) }
+        ensures plain { IsPlain (value_of message.now) → IsOk result }
+    {
+        if let Message::Change(value) = message {
+            self.prepare(nodes, value)?;
+            self.put(nodes);
+        }
+        Ok(())
     }
 
     /// Takes the first value off the queue of a node. Its room stays.
