@@ -33,27 +33,27 @@ all_of-from f (a ∷ args) (m ∷ ms) n h =
 pub all_of-to : {X : Type 0} (f : ℕ → Option X) (args : List ℕ) (ms : List X) → all_of (map f args) ≡ Some ms
     → (length ms ≡ length args) × ((port a : ℕ) → slice_get args port ≡ Some a → slice_get ms port ≡ f a)
 all_of-to f [] ms h = (ap length (sym (same_Some [] ms h)), λ port a e. absurd (none-some a e))
-all_of-to {X = X} f (a ∷ args) ms h = go (f a) refl (all_of (map f args)) refl h
+all_of-to {X = X} f (a ∷ args) ms h = go (all_of-to f args) (f a) refl (all_of (map f args)) refl h
   where
-    tail : (m : X) (rest : List X) → f a ≡ Some m → all_of (map f args) ≡ Some rest
+    tail : (m : X) (rest : List X) → f a ≡ Some m
+        → (length rest ≡ length args) × ((port b : ℕ) → slice_get args port ≡ Some b → slice_get rest port ≡ f b)
         → (length (m ∷ rest) ≡ length (a ∷ args)) × ((port b : ℕ) → slice_get (a ∷ args) port ≡ Some b → slice_get (m ∷ rest) port ≡ f b)
-    tail m rest e q = (ap suc ih.0, ports)
+    tail m rest e ih = (ap suc ih.0, ports)
       where
-        ih : (length rest ≡ length args) × ((port b : ℕ) → slice_get args port ≡ Some b → slice_get rest port ≡ f b)
-        ih = all_of-to f args rest q
-
         ports : (port b : ℕ) → slice_get (a ∷ args) port ≡ Some b → slice_get (m ∷ rest) port ≡ f b
         ports zero b p = sym e ∙ ap f (same_Some a b p)
         ports (suc port) b p = ih.1 port b p
 
-    go : (o : Option X) → f a ≡ o → (r : Option (List X)) → all_of (map f args) ≡ r
+    go : ((rest : List X) → all_of (map f args) ≡ Some rest
+        → (length rest ≡ length args) × ((port b : ℕ) → slice_get args port ≡ Some b → slice_get rest port ≡ f b))
+        → (o : Option X) → f a ≡ o → (r : Option (List X)) → all_of (map f args) ≡ r
         → option_and_then (λ first. option_map (λ rest. first ∷ rest) r) o ≡ Some ms
         → (length ms ≡ length (a ∷ args)) × ((port b : ℕ) → slice_get (a ∷ args) port ≡ Some b → slice_get ms port ≡ f b)
-    go None e r q h = absurd (none-some ms h)
-    go (Some m) e None q h = absurd (none-some ms h)
-    go (Some m) e (Some rest) q h =
+    go ih None e r q h = absurd (none-some ms h)
+    go ih (Some m) e None q h = absurd (none-some ms h)
+    go ih (Some m) e (Some rest) q h =
         subst (λ (xs : List X). (length xs ≡ length (a ∷ args)) × ((port b : ℕ) → slice_get (a ∷ args) port ≡ Some b → slice_get xs port ≡ f b))
-        (same_Some (m ∷ rest) ms h) (tail m rest e q)
+        (same_Some (m ∷ rest) ms h) (tail m rest e (ih rest q))
 
 -- ---- edges
 

@@ -1,5 +1,5 @@
 -- The lists of the asyncs over each node and of the sources.
-use Rattle.std.proofs.Common.{◌≡◌, ℕ, suc, zero, ◌+◌, ◌<◌, ◌≤◌, ◌⊎◌, inl, inr, Bool, true, false, cond, Option, Some, None, List, [], ◌∷◌, ◌++◌, length, map, set, get_or, refl, sym, ap, ◌∙◌, subst, arith, add-one}
+use Rattle.std.proofs.Common.{◌≡◌, ℕ, suc, zero, ◌+◌, ◌<◌, ◌≤◌, ◌⊎◌, inl, inr, Bool, true, false, cond, ◌==◌, Option, Some, None, List, [], ◌∷◌, ◌++◌, length, map, set, get_or, refl, sym, ap, ◌∙◌, subst, arith, add-one}
 use Rattle.std.specs.List.{slice_get}
 use Rattle.std.specs.Option.{option_map_or}
 use Rattle.std.proofs.lemmas.Bool.{cases_eq, false≢true, eqb-true, eq-eqb}
@@ -80,55 +80,53 @@ inner_over nodes x a h = ap (λ (o : Option ℕ). option_map_or (λ i. i == x) o
 pub asyncs-over : (nodes : List Node) (x n i a : ℕ) → slice_get (asyncs_over nodes x n) i ≡ Some a → (a < n) × (inner nodes a ≡ Some x)
 unfolding asyncs_over
 asyncs-over nodes x zero i a h = absurd (none-some a h)
-asyncs-over nodes x (suc n) i a h = go (is_over nodes x n) refl h
+asyncs-over nodes x (suc n) i a h = go (asyncs-over nodes x n i a) (is_over nodes x n) refl h
   where
     later : (a < n) × (inner nodes a ≡ Some x) → (a < suc n) × (inner nodes a ≡ Some x)
     later p = let l : a < n = p.0 in (omega arith, p.1)
 
-    go : (t : Bool) → is_over nodes x n ≡ t → slice_get (asyncs_over nodes x n ++ cond t (n ∷ []) []) i ≡ Some a → (a < suc n) × (inner nodes a ≡ Some x)
-    go true q h = elim (get_push (asyncs_over nodes x n) n a i h) [
-      | inl e ↦ later (asyncs-over nodes x n i a e)
+    go : (slice_get (asyncs_over nodes x n) i ≡ Some a → (a < n) × (inner nodes a ≡ Some x)) → (t : Bool) → is_over nodes x n ≡ t
+        → slice_get (asyncs_over nodes x n ++ cond t (n ∷ []) []) i ≡ Some a → (a < suc n) × (inner nodes a ≡ Some x)
+    go ih true q h = elim (get_push (asyncs_over nodes x n) n a i h) [
+      | inl e ↦ later (ih e)
       | inr e ↦ (omega (arith, e.1), ap (inner nodes) e.1 ∙ over_inner nodes x n q)
     ]
-    go false q h = later (asyncs-over nodes x n i a (ap (λ (xs : List ℕ). slice_get xs i) (sym (append-nil (asyncs_over nodes x n))) ∙ h))
+    go ih false q h = later (ih (ap (λ (xs : List ℕ). slice_get xs i) (sym (append-nil (asyncs_over nodes x n))) ∙ h))
 
 -- and each async over the node is there
 pub over-asyncs : (nodes : List Node) (x n a : ℕ) → a < n → inner nodes a ≡ Some x → IsIn (asyncs_over nodes x n) a
 unfolding asyncs_over
 over-asyncs nodes x zero a l h = absurd (omega arith)
-over-asyncs nodes x (suc n) a l h = go (cases_eq a n) (is_over nodes x n) refl
+over-asyncs nodes x (suc n) a l h = go (λ m. over-asyncs nodes x n a m h) (cases_eq a n) (is_over nodes x n) refl
   where
-    go : (a ≡ n) ⊎ (a ≡ n → ⊥) → (t : Bool) → is_over nodes x n ≡ t → IsIn (asyncs_over nodes x n ++ cond t (n ∷ []) []) a
-    go (inl e) true q =
+    go : (a < n → IsIn (asyncs_over nodes x n) a) → (a ≡ n) ⊎ (a ≡ n → ⊥) → (t : Bool) → is_over nodes x n ≡ t
+        → IsIn (asyncs_over nodes x n ++ cond t (n ∷ []) []) a
+    go ih (inl e) true q =
         (length (asyncs_over nodes x n), get_pushed (asyncs_over nodes x n) n ∙ ap (λ (y : ℕ). Some y) (sym e))
-    go (inl e) false q = absurd (false≢true (sym q ∙ (ap (is_over nodes x) (sym e) ∙ inner_over nodes x a h)))
-    go (inr k) true q = let p = over-asyncs nodes x n a (omega arith) h in (p.0, get_more (asyncs_over nodes x n) n a p.0 p.1)
-    go (inr k) false q =
-        let p = over-asyncs nodes x n a (omega arith) h in
+    go ih (inl e) false q = absurd (false≢true (sym q ∙ (ap (is_over nodes x) (sym e) ∙ inner_over nodes x a h)))
+    go ih (inr k) true q =
+        let p : IsIn (asyncs_over nodes x n) a = ih (omega arith) in (p.0, get_more (asyncs_over nodes x n) n a p.0 p.1)
+    go ih (inr k) false q =
+        let p : IsIn (asyncs_over nodes x n) a = ih (omega arith) in
         (p.0, ap (λ (xs : List ℕ). slice_get xs p.0) (append-nil (asyncs_over nodes x n)) ∙ p.1)
 
 pub asyncs-distinct : (nodes : List Node) (x n : ℕ) → AreDistinct (asyncs_over nodes x n)
 unfolding asyncs_over
 asyncs-distinct nodes x zero i j a h k = absurd (none-some a h)
-asyncs-distinct nodes x (suc n) i j a h k = go (is_over nodes x n) h k
+asyncs-distinct nodes x (suc n) i j a h k = go (asyncs-distinct nodes x n i j a) (is_over nodes x n) h k
   where
-    before : List ℕ
-    before = asyncs_over nodes x n
-
-    less : (i : ℕ) → slice_get before i ≡ Some a → a < n
+    less : (i : ℕ) → slice_get (asyncs_over nodes x n) i ≡ Some a → a < n
     less i e = (asyncs-over nodes x n i a e).0
 
-    both : (slice_get before i ≡ Some a) ⊎ ((i ≡ length before) × (a ≡ n)) → (slice_get before j ≡ Some a) ⊎ ((j ≡ length before) × (a ≡ n)) → i ≡ j
-    both (inl e) (inl f) = asyncs-distinct nodes x n i j a e f
-    both (inl e) (inr f) = absurd (omega (arith, less i e, f.1))
-    both (inr e) (inl f) = absurd (omega (arith, less j f, e.1))
-    both (inr e) (inr f) = e.0 ∙ sym f.0
-
-    go : (t : Bool) → slice_get (before ++ cond t (n ∷ []) []) i ≡ Some a → slice_get (before ++ cond t (n ∷ []) []) j ≡ Some a → i ≡ j
-    go true h k = both (get_push before n a i h) (get_push before n a j k)
-    go false h k =
-        asyncs-distinct nodes x n i j a (ap (λ (xs : List ℕ). slice_get xs i) (sym (append-nil before)) ∙ h)
-        (ap (λ (xs : List ℕ). slice_get xs j) (sym (append-nil before)) ∙ k)
+    go : (slice_get (asyncs_over nodes x n) i ≡ Some a → slice_get (asyncs_over nodes x n) j ≡ Some a → i ≡ j) → (t : Bool)
+        → slice_get (asyncs_over nodes x n ++ cond t (n ∷ []) []) i ≡ Some a → slice_get (asyncs_over nodes x n ++ cond t (n ∷ []) []) j ≡ Some a → i ≡ j
+    go ih true h k = elim (get_push (asyncs_over nodes x n) n a i h) [
+      | inl e ↦ elim (get_push (asyncs_over nodes x n) n a j k) [ inl f ↦ ih e f | inr f ↦ absurd (omega (arith, less i e, f.1)) ]
+      | inr e ↦ elim (get_push (asyncs_over nodes x n) n a j k) [ inl f ↦ absurd (omega (arith, less j f, e.1)) | inr f ↦ e.0 ∙ sym f.0 ]
+    ]
+    go ih false h k =
+        ih (ap (λ (xs : List ℕ). slice_get xs i) (sym (append-nil (asyncs_over nodes x n))) ∙ h)
+        (ap (λ (xs : List ℕ). slice_get xs j) (sym (append-nil (asyncs_over nodes x n))) ∙ k)
 
 -- one node further: the node is put at the end of one list, if it is an async
 pub asyncs-none : (nodes : List Node) (n x : ℕ) → inner nodes n ≡ None → asyncs_over nodes x (suc n) ≡ asyncs_over nodes x n
