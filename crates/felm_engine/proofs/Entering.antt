@@ -1,7 +1,7 @@
 -- What an engine holds before and after an event.
 use Rattle.std.proofs.Common.{◌≡◌, ◌↔◌, ℕ, suc, zero, ◌+◌, ◌-◌, ◌<◌, ◌≤◌, ◌⊎◌, inl, inr, Bool, true, false, cond, eqb, Option, Some, None, List, [], ◌∷◌, ◌++◌, length, map, drop, set, get_or, refl, sym, ap, ◌∙◌, subst, arith}
 use Rattle.std.specs.List.{slice_get, All}
-use Rattle.std.specs.Option.{option_to_list, option_map_or}
+use Rattle.std.specs.Option.{option_to_list, option_map_or, IsSome}
 use Rattle.std.proofs.lemmas.Bool.{cases_eq, cases_lt, false≢true, eq-eqb}
 use Rattle.std.proofs.lemmas.Bool.Decides.{nat_tests}
 use Rattle.std.proofs.lemmas.Grind.{common_steps}
@@ -19,6 +19,7 @@ use Rattle.felm_graph.specs.Nodes.{is_source}
 use Rattle.felm_graph.specs.Graphs.{IsGraph}
 use Rattle.felm_meaning.specs.Nodes.{inner, is_input}
 use Rattle.felm_meaning.specs.PlanValue.{PlanValue}
+use Rattle.felm_meaning.specs.Types.{EventsFit}
 use Rattle.felm_meaning.proofs.Graphs.{ordered}
 use Rattle.felm_meaning.proofs.Legal.{async_is_source, source_is_one, source_within}
 use Rattle.felm_edges.specs.EdgesValue.{EdgesValue, wiring_of, IsWired, ReadsIn, edge_in, prepared_in, HasRoomIn}
@@ -32,12 +33,15 @@ use Rattle.felm_core.specs.EngineLaws.{message_by}
 use Rattle.felm_core.proofs.Wiring.{length-counted, counted-source, counted-other}
 use Rattle.felm_core.proofs.Holds.{slice_get-set_same, slice_get-set_other, room_by_edges, event_holds, source_sends_is}
 use Rattle.felm_core.proofs.Spares.{event_room}
+use Rattle.felm_core.proofs.Runs.{move_sound}
+use Rattle.felm_core.proofs.Scripted.{move_fits}
+use Rattle.felm_core.proofs.Sticks.{done_within}
 use Rattle.felm_engine.specs.Lists.{asyncs_over, sources_of}
 use Rattle.felm_engine.specs.Answers.{coming_in}
 use Rattle.felm_engine.specs.Queued.{QueueValue, queue_at, put_value, AreDistinct, IsIn, SameQueues, ArePrepared, PutInto, TakenFrom}
 use Rattle.felm_engine.specs.Sources.{SameEdges, AreDue, PutAll, CountedAs, Grown, AreRoomy, shown_by}
-use Rattle.felm_engine.proofs.OverLists.{asyncs-over, over-asyncs}
-use Rattle.felm_engine.proofs.SourceLists.{source_there, there_source, no_source}
+use Rattle.felm_engine.proofs.OverLists.{asyncs-over, over-asyncs, asyncs-distinct}
+use Rattle.felm_engine.proofs.SourceLists.{source_there, no_source, all_sources}
 
 -- ---- what an engine holds
 
@@ -87,7 +91,7 @@ pub record EntersFrom (e : Event) (sources over : List ℕ) (shown : Option Mess
   pub taken : TakenFrom e.source ready.queues between
   pub put : PutInto over between new.queues
   pub outputs : new.outputs.items ≡ ready.outputs.items ++ option_to_list shown
-  pub spare : shown ≡ None → new.outputs.spare ≡ ready.outputs.spare
+  pub spare : ready.outputs.spare ≤ new.outputs.spare + length (option_to_list shown)
 
 -- the asyncs over a node, in a list
 module _ (s : PlanValue) (graph : IsGraph s.graph) (x : ℕ) (over : List ℕ) (are : over ≡ asyncs_over s.graph.nodes x (length s.graph.nodes)) where
@@ -259,7 +263,8 @@ module _ (s : PlanValue) (c : Position) (e : Event) (sources over : List ℕ) (s
     waiting = spare_for;
     outputs = λ w.
       let n : shown ≡ None = shown_at ∙ ap (λ (t : Bool). cond t (Some (message_in e old.kept s.graph.main)) None) w in
-      omega (arith, then_.spare n, first.owed);
+      let z : length (option_to_list shown) ≡ 0 = ap (λ (o : Option Message). length (option_to_list o)) n in
+      omega (arith, then_.spare, first.owed);
   }
 
   pub entered_room : KeepsRoom s (with_next s c e) (spares_in new)
@@ -294,3 +299,98 @@ entered_leads s c d e place source typed waits q = go (inner s.graph.nodes e.sou
     go None h (inl i) = (place, i, typed, q)
     go None h (inr w) = absurd (none-some w.0 (sym h ∙ w.1))
     go (Some x) h w = (place, (e.value, waits x h, q))
+
+-- ---- all that an engine keeps after an event
+
+pub record HasEntered (s : PlanValue) (c : Position) (e : Event) (d : Position) (new : Held) (settled : ℕ) : Type 0 where
+  pub leads : Leads s c (coming_in s.graph.nodes e) d
+  pub sound : IsSound s d
+  pub typed : EventsFit s.graph d.journal
+  pub holds : Holds s d (edge_in new.edges) (parts_in new settled)
+  pub room : KeepsRoom s d (spares_in new)
+
+-- the event may come in
+pub record MayEnter (s : PlanValue) (c : Position) (e : Event) : Type 0 where
+  pub place : HasPlace s c
+  pub source : is_source s.graph.nodes e.source ≡ true
+  pub typed : FitsNode s.graph e.source e.value
+  pub waits : (x : ℕ) → inner s.graph.nodes e.source ≡ Some x → slice_get (waiting_at s c e.source) 0 ≡ Some e.value
+
+pub has_entered : (s : PlanValue) (c : Position) (e : Event) (sources over : List ℕ) (shown : Option Message) (old ready new : Held) (settled : ℕ)
+    (journal : List Event) (done : List ℕ) → IsGraph s.graph → IsSound s c → EventsFit s.graph c.journal → MayEnter s c e
+    → sources ≡ sources_of s.graph.nodes (length s.graph.nodes) → over ≡ asyncs_over s.graph.nodes e.source (length s.graph.nodes)
+    → old.edges.wiring ≡ wiring_of s.graph.nodes → Holds s c (edge_in old.edges) (parts_in old settled)
+    → ((v : Value) → slice_get old.kept s.graph.main ≡ Some v → shown ≡ shown_by s.graph e v)
+    → IsReadyFor s c e sources over old ready → EntersFrom e sources over shown ready new
+    → journal ≡ c.journal ++ e ∷ [] → CountedAs sources (length c.journal + 1) c.done done
+    → HasEntered s c e (record c { journal = journal; done = done }) new settled
+has_entered s c e sources over shown old ready new settled journal done graph sound typed may sources_are over_are wiring holds shown_is first then_ j counts =
+    record {
+      leads = leads;
+      sound = move_sound s graph c (coming_in s.graph.nodes e) (record c { journal = journal; done = done }) sound leads;
+      typed = move_fits s c (coming_in s.graph.nodes e) (record c { journal = journal; done = done }) graph sound typed leads;
+      holds = subst (λ (d : Position). Holds s d (edge_in new.edges) (parts_in new settled)) (sym at)
+          (entered_holds s c e sources over shown old ready new settled graph sound may.source sources_are over_are wiring holds shown_is first then_);
+      room = subst (λ (d : Position). KeepsRoom s d (spares_in new)) (sym at)
+          (entered_room s c e sources over shown old ready new settled graph sound may.source sources_are over_are wiring holds shown_is first then_);
+    }
+  where
+    at : record c { journal = journal; done = done } ≡ with_next s c e
+    at =
+        ap (λ (j : List Event). record c { journal = j; done = done }) j ∙
+        ap (λ (d : List ℕ). record c { journal = c.journal ++ e ∷ []; done = d }) (entered_counts s c sources done sound sources_are counts)
+
+    leads : Leads s c (coming_in s.graph.nodes e) (record c { journal = journal; done = done })
+    leads = entered_leads s c (record c { journal = journal; done = done }) e may.place may.source may.typed may.waits at
+
+-- ---- what the steps on the way ask
+
+-- no node has sent more messages than there are events
+pub done_most : (s : PlanValue) (c : Position) (k : ℕ) → IsGraph s.graph → IsSound s c → done_at c.done k ≤ length c.journal
+done_most s c k graph sound = elim (cases_lt k (length s.graph.nodes)) [
+  | inl l ↦ done_within s c graph sound k l
+  | inr l ↦ omega (arith, get_or_past c.done k 0 (omega (arith, sound.counts)))
+]
+
+pub same_room_in : (old new : EdgesValue) (k : ℕ) → SameEdges old new → HasRoomIn old k → HasRoomIn new k
+same_room_in old new k same room = λ r port h.
+    let l : length (edge_in old r port) < old.capacity = room r port (subst (λ (w : List (List ℕ)). IsWired w r port k) same.wiring h) in
+    omega (arith, ap (λ (rows : List (List (List Message))). length (get_or (get_or rows r []) port [])) same.lists, same.capacity)
+
+pub due_prepared : (nodes : List Node) (sources : List ℕ) (e : Event) (kept : List Value) (edges : EdgesValue)
+    → sources ≡ sources_of nodes (length nodes) → length kept ≡ length nodes → AreDue sources e kept edges
+    → All (λ k. IsSome (prepared_in edges k)) sources
+due_prepared nodes sources e kept edges are l due = all_sources nodes sources are (λ k. IsSome (prepared_in edges k)) (λ k h.
+    some (prepared_in edges k) _ (due k (get_or kept k value.Unit) (source_there nodes sources are k h)
+      (slice_get-get_or kept k value.Unit (omega (arith, source_within nodes k h)))))
+  where
+    some : {X : Type 0} (o : Option X) (x : X) → o ≡ Some x → IsSome o
+    some {X} o x q = subst (λ (p : Option X). IsSome p) (sym q) tt
+
+pub roomy_still : (nodes : List Node) (sources done : List ℕ) (events : ℕ) (old new : List QueueValue) → AreRoomy nodes sources done events old
+    → SameQueues old new → AreRoomy nodes sources done events new
+roomy_still nodes sources done events old new roomy same = λ a x w h.
+    let l : events - done_at done x < (queue_at old a).spare = roomy a x w h in
+    omega (arith, same.spare a)
+
+module _ (s : PlanValue) (c : Position) (e : Event) (sources over : List ℕ) (queues between : List QueueValue) (graph : IsGraph s.graph)
+    (source : is_source s.graph.nodes e.source ≡ true) (sources_are : sources ≡ sources_of s.graph.nodes (length s.graph.nodes))
+    (over_are : over ≡ asyncs_over s.graph.nodes e.source (length s.graph.nodes)) where
+  pub over_within : (i a : ℕ) → slice_get over i ≡ Some a → a < length s.graph.nodes
+  over_within i a h =
+      source_within s.graph.nodes a (async_is_source s.graph.nodes a e.source (there_over s graph e.source over over_are a (i, h))).0
+
+  pub over_distinct : AreDistinct over
+  over_distinct = λ i j a h k.
+      asyncs-distinct s.graph.nodes e.source (length s.graph.nodes) i j a (ap (λ (xs : List ℕ). slice_get xs i) (sym over_are) ∙ h)
+      (ap (λ (xs : List ℕ). slice_get xs j) (sym over_are) ∙ k)
+
+  -- each async over the event's source has room for the event's value
+  pub over_roomy : AreRoomy s.graph.nodes sources c.done (length c.journal) queues → TakenFrom e.source queues between
+      → (i a : ℕ) → slice_get over i ≡ Some a → 0 < (queue_at between a).spare
+  over_roomy roomy taken i a h =
+      let x : inner s.graph.nodes a ≡ Some e.source = there_over s graph e.source over over_are a (i, h) in
+      let l : length c.journal - done_at c.done e.source < (queue_at queues a).spare =
+      roomy a e.source (source_there s.graph.nodes sources sources_are a (async_is_source s.graph.nodes a e.source x).0) x in
+      let n : a ≡ e.source → ⊥ = λ q. let d : e.source < a = (ordered s.graph graph).inner_down a e.source x in omega arith in
+      omega (arith, ap (λ (q : QueueValue). q.spare) (taken.stays a n))

@@ -7,3 +7,4 @@ pub mod Counting
 pub mod EachSource
 pub mod SourceLists
 pub mod Entering
+pub mod Refusals

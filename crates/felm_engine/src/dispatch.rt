@@ -1,5 +1,6 @@
 //! Events come in.
-ghost use Rattle.std.specs.Prelude.{◌≡◌, ◌↔◌, ◌<◌, ℕ, Some, length, slice_get, IsTrue, IfOk, OnOk, OnErr};
+ghost use Rattle.std.specs.Prelude.{◌≡◌, ◌↔◌, ◌+◌, ◌<◌, ◌≤◌, ◌++◌, ℕ, Some, length, slice_get, IsTrue, IfOk, OnOk, OnErr};
+ghost use Rattle.std.specs.Option.{option_to_list};
 ghost use Rattle.felm_term.specs.declared.value.Value.{Value};
 ghost use Rattle.felm_core.specs.Moves.{HasPlace};
 ghost use Rattle.felm_engine.specs.Answers.{planned, Moved, MayComeIn, coming_in, AllHaveRoom, EnteredAs};
@@ -11,7 +12,7 @@ use crate::sources::{
     count_messages, have_room, message_at, prepare_messages, put_messages, reserve_queues,
 };
 use felm_graph::{Graph, is_source};
-use felm_term::{Event, Memory, Message, Value};
+use felm_term::{Event, Memory, Message, Messages, Value};
 
 impl Engine {
     /// Enters an event of a source: a fed value of an input, or the value that has waited longest at
@@ -56,12 +57,9 @@ impl Engine {
         let events = self.journal.len() as u64;
 
         // All that may be refused comes first.
-        let kept = event.value.copy()?;
-        let shown = shown_at(graph, &event, &self.kept)?;
         let owed = events - self.done[graph.main() as usize];
-        self.outputs.reserve(owed as usize + 1)?;
         self.journal.reserve(1)?;
-        prepare_messages(sources, &event, &self.kept, &mut self.edges)?;
+        self.outputs.reserve(owed as usize + 1)?;
         reserve_queues(
             sources,
             graph.nodes(),
@@ -70,15 +68,16 @@ impl Engine {
             &mut self.waiting,
         )?;
         self.waiting.prepare(asyncs, &event.value)?;
+        prepare_messages(sources, &event, &self.kept, &mut self.edges)?;
+        let shown = shown_at(graph, &event, &self.kept)?;
+        let kept = event.value.copy()?;
 
         put_messages(sources, &mut self.edges);
         count_messages(sources, events + 1, &mut self.done);
         self.kept[event.source as usize] = kept;
         self.waiting.take_first(event.source);
         self.waiting.put(asyncs);
-        if let Some(message) = shown {
-            let _ = self.outputs.push(message);
-        }
+        show(shown, &mut self.outputs);
         let _ = self.journal.push(event);
         Ok(())
     }
@@ -96,4 +95,15 @@ fn shown_at(graph: &Graph, event: &Event, kept: &[Value]) -> Result<Option<Messa
     }
     let message = message_at(event, main, &kept[main as usize])?;
     Ok(Some(message))
+}
+
+// Appends a message to the outputs, if there is one. There is room for it.
+fn show(shown: Option<Message>, outputs: &mut Messages)
+    requires { 0 < outputs.old.spare }
+    ensures items { outputs.new.items ≡ outputs.old.items ++ option_to_list shown }
+    ensures spare { outputs.old.spare ≤ outputs.new.spare + length (option_to_list shown) }
+{
+    if let Some(message) = shown {
+        let _ = outputs.push(message);
+    }
 }
