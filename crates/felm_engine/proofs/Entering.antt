@@ -1,7 +1,8 @@
 -- What an engine holds before and after an event.
-use Rattle.std.proofs.Common.{◌≡◌, ◌↔◌, ℕ, suc, zero, ◌+◌, ◌-◌, ◌<◌, ◌≤◌, ◌⊎◌, inl, inr, Bool, true, false, cond, eqb, Option, Some, None, List, [], ◌∷◌, ◌++◌, length, map, drop, set, get_or, refl, sym, ap, ◌∙◌, subst, arith}
+use Rattle.std.proofs.Common.{◌≡◌, ◌↔◌, ℕ, suc, zero, ◌+◌, ◌-◌, ◌<◌, ◌≤◌, ◌⊎◌, inl, inr, Bool, true, false, cond, eqb, Option, Some, None, Result, Ok, Err, List, [], ◌∷◌, ◌++◌, length, map, drop, set, get_or, refl, sym, ap, ◌∙◌, subst, arith}
 use Rattle.std.specs.List.{slice_get, All}
 use Rattle.std.specs.Option.{option_to_list, option_map_or, IsSome}
+use Rattle.std.specs.Result.{IsOk, OnOk}
 use Rattle.std.proofs.lemmas.Bool.{cases_eq, cases_lt, false≢true, eq-eqb}
 use Rattle.std.proofs.lemmas.Bool.Decides.{nat_tests}
 use Rattle.std.proofs.lemmas.Grind.{common_steps}
@@ -365,13 +366,27 @@ due_prepared nodes sources e kept edges are l due = all_sources nodes sources ar
       (slice_get-get_or kept k value.Unit (omega (arith, source_within nodes k h)))))
   where
     some : {X : Type 0} (o : Option X) (x : X) → o ≡ Some x → IsSome o
-    some {X} o x q = subst (λ (p : Option X). IsSome p) (sym q) tt
+    some {X} o x q = subst (λ (p : Option X). IsSome p) (sym q) refl
 
-pub roomy_still : (nodes : List Node) (sources done : List ℕ) (events : ℕ) (old new : List QueueValue) → AreRoomy nodes sources done events old
-    → SameQueues old new → AreRoomy nodes sources done events new
-roomy_still nodes sources done events old new roomy same = λ a x w h.
-    let l : events - done_at done x < (queue_at old a).spare = roomy a x w h in
-    omega (arith, same.spare a)
+pub roomy_ready : (s : PlanValue) (c : Position) (sources : List ℕ) (nodes : List Node) (done : List ℕ) (events : ℕ) (old new : List QueueValue)
+    → nodes ≡ s.graph.nodes → done ≡ c.done → events ≡ length c.journal → AreRoomy nodes sources done events old → SameQueues old new
+    → AreRoomy s.graph.nodes sources c.done (length c.journal) new
+roomy_ready s c sources nodes done events old new n d j roomy same = λ a x w h.
+    let l : events - done_at done x < (queue_at old a).spare = roomy a x w (ap (λ (ns : List Node). inner ns a) n ∙ h) in
+    omega (arith, ap (λ (ds : List ℕ). done_at ds x) d, j, same.spare a)
+
+pub due_ready : (sources : List ℕ) (e : Event) (kept kept' : List Value) (edges : EdgesValue) → kept ≡ kept' → AreDue sources e kept edges
+    → AreDue sources e kept' edges
+due_ready sources e kept kept' edges q due = λ k v w h. due k v w (ap (λ (vs : List Value). slice_get vs k) q ∙ h)
+
+pub counts_after : (sources : List ℕ) (count count' : ℕ) (old old' new new' : List ℕ) → count ≡ count' → old ≡ old' → new' ≡ new
+    → CountedAs sources count old new → CountedAs sources count' old' new'
+counts_after sources count count' old old' new new' p q r h =
+    subst (λ (n : ℕ). CountedAs sources n old' new') p (subst (λ (o : List ℕ). CountedAs sources count o new') q (subst (CountedAs sources count old) (sym r) h))
+
+pub on_ok : {T E : Type 0} (r : Result T E) (P : Type 0) → IsOk r → OnOk r P → P
+on_ok (Ok x) P h p = p
+on_ok (Err e) P h p = absurd (false≢true h)
 
 module _ (s : PlanValue) (c : Position) (e : Event) (sources over : List ℕ) (queues between : List QueueValue) (graph : IsGraph s.graph)
     (source : is_source s.graph.nodes e.source ≡ true) (sources_are : sources ≡ sources_of s.graph.nodes (length s.graph.nodes))
