@@ -1,8 +1,9 @@
 -- Loops over a list of sources: what holds of the first of them.
-use Rattle.std.proofs.Common.{◌≡◌, ℕ, ◌+◌, ◌-◌, ◌<◌, ◌≤◌, ◌⊎◌, inl, inr, List, [], ◌∷◌, ◌++◌, Some, None, length, set, refl, sym, ap, ◌∙◌, subst, arith}
+use Rattle.std.proofs.Common.{◌≡◌, ℕ, ◌+◌, ◌-◌, ◌<◌, ◌≤◌, ◌⊎◌, inl, inr, Bool, true, false, List, [], ◌∷◌, ◌++◌, Some, None, length, set, get_or, refl, sym, ap, ◌∙◌, subst, arith}
+use Rattle.std.specs.Bool.{MatchBool}
 use Rattle.std.specs.List.{slice_get, All}
 use Rattle.std.specs.Option.{IsSome, option_and_then}
-use Rattle.std.proofs.lemmas.Option.{same_Some, none-some, slice_get_within, slice_get_read, get_or_from_slice_get}
+use Rattle.std.proofs.lemmas.Option.{same_Some, none-some, slice_get_within, slice_get-get_or, get_or_from_slice_get}
 use Rattle.std.proofs.lemmas.Bool.{cases_eq, cases_lt}
 use Rattle.std.proofs.lemmas.List.{length-set, get_or-set_same, get_or-set_other}
 use Rattle.std.proofs.lemmas.List.Elements.{All-get_or, All-from_get_or}
@@ -58,6 +59,15 @@ pub all_at : (P : ℕ → Type 0) (xs : List ℕ) (i k : ℕ) → All P xs → s
 all_at P xs i k h e =
     let l : i < length xs = slice_get_within xs i k e in
     subst P (get_or_from_slice_get xs i k 0 e) (All-get_or P xs i 0 l h)
+
+-- and what holds of each holds of all
+pub all_of : (P : ℕ → Type 0) (xs : List ℕ) → ((k : ℕ) → IsIn xs k → P k) → All P xs
+all_of P xs f = All-from_get_or P xs 0 (λ i l. f (get_or xs i 0) (i, slice_get-get_or xs i 0 l))
+
+-- what holds where a test is true, and what where it is false
+pub match_weaker : {P Q P' Q' : Type 0} (b : Bool) → (P → P') → (Q → Q') → MatchBool b P Q → MatchBool b P' Q'
+match_weaker true f g h = f h
+match_weaker false f g h = g h
 
 -- ---- inner signals
 

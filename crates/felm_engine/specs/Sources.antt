@@ -7,12 +7,16 @@ use Rattle.felm_graph.specs.declared.node.Node.{Node}
 use Rattle.felm_graph.specs.GraphValue.{GraphValue}
 use Rattle.felm_graph.specs.Nodes.{is_source}
 use Rattle.felm_meaning.specs.Nodes.{inner}
-use Rattle.felm_edges.specs.EdgesValue.{EdgesValue, ReadsIn, edge_in, prepared_in}
+use Rattle.felm_edges.specs.EdgesValue.{EdgesValue, ReadsIn, edge_in, prepared_in, HasRoomIn}
 use Rattle.felm_core.specs.Positions.{done_at}
 use Rattle.felm_core.specs.EngineLaws.{message_by}
 use Rattle.felm_engine.specs.Queued.{QueueValue, queue_at, IsIn}
 
 -- ---- edges
+
+-- some edge that reads one of these nodes can take no message more
+abbrev pub SomeLacksRoom : List ℕ → EdgesValue → Type 0
+SomeLacksRoom sources edges = (k : ℕ) × IsIn sources k × ¬ HasRoomIn edges k
 
 -- nothing was put on an edge or taken off it
 pub record SameEdges (old new : EdgesValue) : Type 0 where

@@ -1,9 +1,9 @@
 //! Events come in.
-ghost use Rattle.std.specs.Prelude.{◌≡◌, ◌↔◌, ◌+◌, ◌<◌, ◌≤◌, ◌++◌, ℕ, Some, length, slice_get, IsTrue, IfOk, OnOk, OnErr};
+ghost use Rattle.std.specs.Prelude.{◌≡◌, ◌+◌, ◌<◌, ◌≤◌, ◌++◌, ℕ, Some, length, slice_get, MatchBool, IfOk, OnOk, OnErr};
 ghost use Rattle.std.specs.Option.{option_to_list};
 ghost use Rattle.felm_term.specs.declared.value.Value.{Value};
 ghost use Rattle.felm_core.specs.Moves.{HasPlace};
-ghost use Rattle.felm_engine.specs.Answers.{planned, Moved, MayComeIn, coming_in, AllHaveRoom, EnteredAs};
+ghost use Rattle.felm_engine.specs.Answers.{planned, Moved, MayComeIn, coming_in, AllHaveRoom, LacksRoom, EnteredAs};
 ghost use Rattle.felm_engine.specs.Sources.{shown_by};
 
 use crate::answers::Entered;
@@ -38,7 +38,7 @@ impl Engine {
 
     // Whether each edge that reads a source can take one message more.
     fn sources_have_room(&self) -> bool
-        ensures { IsTrue result ↔ AllHaveRoom (planned self.now) self.now.position }
+        ensures { MatchBool result (AllHaveRoom (planned self.now) self.now.position) (LacksRoom (planned self.now) self.now.position) }
     {
         have_room(self.sources.as_slice(), &self.edges)
     }

@@ -1,11 +1,11 @@
 //! What an event does at each source of a graph. Sources stand in a list.
-ghost use Rattle.std.specs.Prelude.{◌≡◌, ◌↔◌, ◌<◌, ◌≤◌, ◌^◌, ℕ, Some, length, All, IsTrue, IsSome, IfOk, OnOk};
+ghost use Rattle.std.specs.Prelude.{◌≡◌, ◌<◌, ◌≤◌, ◌^◌, ℕ, Some, length, All, MatchBool, IsSome, IfOk, OnOk};
 ghost use Rattle.felm_edges.specs.EdgesValue.{HasRoomIn, prepared_in};
 ghost use Rattle.felm_meaning.specs.Nodes.{inner};
 ghost use Rattle.felm_core.specs.Positions.{done_at};
 ghost use Rattle.felm_core.specs.EngineLaws.{message_by};
 ghost use Rattle.felm_engine.specs.Queued.{AreDistinct};
-ghost use Rattle.felm_engine.specs.Sources.{SameEdges, AreDue, PutAll, CountedAs, Grown, AreRoomy};
+ghost use Rattle.felm_engine.specs.Sources.{SomeLacksRoom, SameEdges, AreDue, PutAll, CountedAs, Grown, AreRoomy};
 
 use crate::waiting::Waiting;
 use felm_edges::Edges;
@@ -15,9 +15,14 @@ use felm_term::{Event, Memory, Message, Value};
 /// Whether each edge that reads one of these nodes can take one message more.
 pub fn have_room(sources: &[u32], edges: &Edges) -> bool
     requires { All (λ k. k < length edges.now.wiring) sources.now }
-    ensures { IsTrue result ↔ All (HasRoomIn edges.now) sources.now }
+    ensures { MatchBool result (All (HasRoomIn edges.now) sources.now) (SomeLacksRoom sources.now edges.now) }
 {
-    sources.iter().all(|source| edges.room(*source))
+    for source in sources {
+        if !edges.room(*source) {
+            return false;
+        }
+    }
+    true
 }
 
 /// The message of a source at an event, by the value that it keeps.
