@@ -4,3 +4,4 @@ pub mod Flags
 pub mod Edged
 pub mod Moving
 pub mod Counting
+pub mod Beginning

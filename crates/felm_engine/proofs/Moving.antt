@@ -25,7 +25,7 @@ use Rattle.felm_core.specs.Holds.{Edges, Parts, waiting_of, Holds, SentFrom, Spa
 use Rattle.felm_core.proofs.Turns.{stopped_sound}
 use Rattle.felm_core.proofs.Sticks.{done_within}
 use Rattle.felm_core.proofs.Wiring.{reader_within}
-use Rattle.felm_edges.specs.EdgesValue.{EdgesValue, ReadsIn, edge_in, prepared_in}
+use Rattle.felm_edges.specs.EdgesValue.{EdgesValue, IsWired, ReadsIn, edge_in, HasRoomIn, IsFedIn}
 use Rattle.felm_edges.specs.Changes.{PreparedFrom, PutFrom, DroppedFrom}
 use Rattle.felm_engine.specs.Lists.{asyncs_over}
 use Rattle.felm_engine.specs.Queued.{QueueValue, no_queue, queue_at, IsIn, SameQueues, PassedOn}
@@ -144,7 +144,29 @@ module _ (plan : PlanValue) (k : ℕ) (m : Message) (e0 e1 e2 e3 : EdgesValue) (
   edge_other r port a h n o =
       dropped.stays r port (λ e. o (sym e)) ∙ (put.stays r port a (wired_then r port a h) (λ e. n (sym e)) ∙ lists_stay r port)
 
--- the asyncs over node k
+-- ---- when a message may be put and heads taken
+
+module _ (k : ℕ) (e0 e1 : EdgesValue) (o : Option Message) (prepared : PreparedFrom e0 k o e1) where
+  edge_then : (r port : ℕ) → edge_in e1 r port ≡ edge_in e0 r port
+  edge_then r port = ap (λ (ls : List (List (List Message))). get_or (get_or ls r []) port []) prepared.lists
+
+  pub room_then : HasRoomIn e0 k → HasRoomIn e1 k
+  room_then room r port h =
+      let h' : ReadsIn e0 r port k = subst (λ (w : List (List ℕ)). IsWired w r port k) prepared.wiring h in
+      let l : length (edge_in e0 r port) < e0.capacity = room r port h' in
+      omega (arith, l, ap length (edge_then r port), prepared.capacity)
+
+  -- the heads of the node's own edges are still there after its message was put, as it doesn't read itself
+  pub fed_then : (e2 : EdgesValue) → PutFrom e1 k e2 → ((port a : ℕ) → ReadsIn e0 k port a → a ≡ k → ⊥) → IsFedIn e0 k → IsFedIn e2 k
+  fed_then e2 put apart fed port a h =
+      let h1 : ReadsIn e1 k port a = subst (λ (w : List (List ℕ)). IsWired w k port a) put.wiring h in
+      let h0 : ReadsIn e0 k port a = subst (λ (w : List (List ℕ)). IsWired w k port a) prepared.wiring h1 in
+      let l : 0 < length (edge_in e0 k port) = fed port a h0 in
+      let q : edge_in e2 k port ≡ edge_in e0 k port = put.stays k port a h1 (apart port a h0) ∙ edge_then k port in
+      omega (arith, l, ap length q)
+
+-- ---- the asyncs over node k
+
 module _ (plan : PlanValue) (k : ℕ) (m : Message) (old new : List QueueValue) (nodes : List ℕ) (lengths : length old ≡ length plan.graph.nodes)
     (asyncs : nodes ≡ asyncs_over plan.graph.nodes k (length plan.graph.nodes)) (passed : PassedOn nodes m old new) where
   within : (a : ℕ) → inner plan.graph.nodes a ≡ Some k → a < length plan.graph.nodes

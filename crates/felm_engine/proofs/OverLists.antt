@@ -1,16 +1,20 @@
 -- The lists of the asyncs over each node and of the sources.
 use Rattle.std.proofs.Common.{◌≡◌, ℕ, suc, zero, ◌+◌, ◌<◌, ◌≤◌, ◌⊎◌, inl, inr, Bool, true, false, cond, Option, Some, None, List, [], ◌∷◌, ◌++◌, length, map, set, get_or, refl, sym, ap, ◌∙◌, subst, arith, add-one}
 use Rattle.std.specs.List.{slice_get}
-use Rattle.std.specs.Option.{option_map_or}
+use Rattle.std.specs.Option.{option_map_or, option_and_then}
 use Rattle.std.proofs.lemmas.Bool.{cases_eq, false≢true, eqb-true, eq-eqb}
-use Rattle.std.proofs.lemmas.Option.{none-some, same_Some, slice_get_within}
-use Rattle.std.proofs.lemmas.List.{length_push, append-nil, get_or-map}
+use Rattle.std.proofs.lemmas.Option.{none-some, same_Some, slice_get_within, slice_get-get_or}
+use Rattle.std.proofs.lemmas.List.{length_push, append-nil, length-set, map-set, get_or-map, get_or-set_same, get_or-set_other}
 use Rattle.felm_term.specs.Spared.{Spared}
 use Rattle.felm_graph.specs.declared.node.Node.{Node}
+use Rattle.felm_graph.specs.GraphValue.{GraphValue}
+use Rattle.felm_graph.specs.Graphs.{IsGraph}
 use Rattle.felm_graph.specs.Nodes.{is_source}
-use Rattle.felm_meaning.specs.Nodes.{inner}
+use Rattle.felm_meaning.specs.Nodes.{inner, inner_of_kind}
+use Rattle.felm_meaning.proofs.Graphs.{ordered}
+use Rattle.felm_meaning.proofs.Legal.{async_is_source, source_within}
 use Rattle.felm_core.specs.Contents.{turning}
-use Rattle.felm_engine.specs.Lists.{is_over, asyncs_over, sources_of}
+use Rattle.felm_engine.specs.Lists.{is_over, asyncs_over, sources_of, items_in, with_async}
 use Rattle.felm_engine.specs.Queued.{AreDistinct, IsIn}
 
 -- ---- lists with one more item
@@ -32,39 +36,44 @@ get_pushed (x ∷ xs) y = get_pushed xs y
 
 -- ---- lists of lists
 
--- what each list has
-abbrev pub lists_of : List (Spared ℕ) → List (List ℕ)
-lists_of lists = map (λ (list : Spared ℕ). list.items) lists
-
-no_list : Spared ℕ
-no_list = record { items = []; spare = 0 }
-
-pub list_at : (lists : List (Spared ℕ)) (x : ℕ) (list : Spared ℕ) → x < length lists → list ≡ get_or lists x list → get_or (lists_of lists) x [] ≡ list.items
+pub list_at : (lists : List (Spared ℕ)) (x : ℕ) (list : Spared ℕ) → x < length lists → list ≡ get_or lists x list → get_or (items_in lists) x [] ≡ list.items
 list_at lists x list l e = get_or-map (λ (s : Spared ℕ). s.items) lists x list [] l ∙ ap (λ (s : Spared ℕ). s.items) (sym e)
 
 -- one list more, which is empty
-pub empty-push : (lists : List (Spared ℕ)) (list : Spared ℕ) → list.items ≡ [] → ((x : ℕ) → get_or (lists_of lists) x [] ≡ []) → (x : ℕ)
-    → get_or (lists_of (lists ++ list ∷ [])) x [] ≡ []
+pub empty-push : (lists : List (Spared ℕ)) (list : Spared ℕ) → list.items ≡ [] → ((x : ℕ) → get_or (items_in lists) x [] ≡ []) → (x : ℕ)
+    → get_or (items_in (lists ++ list ∷ [])) x [] ≡ []
 empty-push [] list e h zero = e
 empty-push [] list e h (suc x) = refl
 empty-push (l ∷ lists) list e h zero = h 0
 empty-push (l ∷ lists) list e h (suc x) = empty-push lists list e (λ y. h (suc y)) x
 
--- one list is another one
-pub set_lists_same : (lists : List (Spared ℕ)) (x : ℕ) (list : Spared ℕ) → x < length lists → get_or (lists_of (set lists x list)) x [] ≡ list.items
-set_lists_same [] x list l = absurd (omega arith)
-set_lists_same (a ∷ lists) zero list l = refl
-set_lists_same (a ∷ lists) (suc x) list l = set_lists_same lists x list (omega arith)
+-- one list has one item more
+pub added-list : (lists : List (Spared ℕ)) (x n : ℕ) (list new : Spared ℕ) → x < length lists → list ≡ get_or lists x list → new.items ≡ list.items ++ n ∷ []
+    → items_in (set lists x new) ≡ set (items_in lists) x (get_or (items_in lists) x [] ++ n ∷ [])
+added-list lists x n list new l read e =
+    map-set (λ (s : Spared ℕ). s.items) lists x new ∙
+    ap (set (items_in lists) x) (e ∙ ap (λ (xs : List ℕ). xs ++ n ∷ []) (sym (list_at lists x list l read)))
 
-pub set_lists_other : (lists : List (Spared ℕ)) (x y : ℕ) (list : Spared ℕ) → (y ≡ x → ⊥)
-    → get_or (lists_of (set lists x list)) y [] ≡ get_or (lists_of lists) y []
-set_lists_other [] x y list n = refl
-set_lists_other (a ∷ lists) zero zero list n = absurd (n refl)
-set_lists_other (a ∷ lists) zero (suc y) list n = refl
-set_lists_other (a ∷ lists) (suc x) zero list n = refl
-set_lists_other (a ∷ lists) (suc x) (suc y) list n = set_lists_other lists x y list (λ e. n (ap suc e))
+pub length-with_async : (o : Option ℕ) (a : ℕ) (asyncs : List (List ℕ)) → length (with_async o a asyncs) ≡ length asyncs
+length-with_async None a asyncs = refl
+length-with_async (Some x) a asyncs = length-set asyncs x _
 
 -- ---- asyncs
+
+-- the inner signal of a node that was read
+pub inner_read : (g : GraphValue) (nodes : List Node) (k : ℕ) (n : Node) → nodes ≡ g.nodes → k < length g.nodes
+    → inner g.nodes k ≡ inner_of_kind (get_or nodes k n).kind
+inner_read g nodes k n e l =
+    let w : k < length nodes = omega (arith, l, ap length e) in
+    ap (λ (ns : List Node). inner ns k) (sym e) ∙
+    ap (λ (o : Option Node). option_and_then (λ m. inner_of_kind m.kind) o) (slice_get-get_or nodes k n w)
+
+-- it is a node
+pub inner_within : (g : GraphValue) → IsGraph g → (k x : ℕ) → inner g.nodes k ≡ Some x → x < length g.nodes
+inner_within g graph k x h =
+    let l : x < k = (ordered g graph).inner_down k x h in
+    let m : k < length g.nodes = source_within g.nodes k (async_is_source g.nodes k x h).0 in
+    omega arith
 
 over_inner : (nodes : List Node) (x a : ℕ) → is_over nodes x a ≡ true → inner nodes a ≡ Some x
 over_inner nodes x a h = go (inner nodes a) refl h
@@ -171,24 +180,21 @@ sources-and-turning nodes (suc n) = go (is_source nodes n) (sources-and-turning 
     go false ih = omega (arith, ap length (append-nil (sources_of nodes n)))
 
 -- one node further
-module _ (nodes : List Node) (n : ℕ) (lists : List (Spared ℕ)) (over : (x : ℕ) → x < length nodes → get_or (lists_of lists) x [] ≡ asyncs_over nodes x n) where
-  pub over-none : inner nodes n ≡ None → (x : ℕ) → x < length nodes → get_or (lists_of lists) x [] ≡ asyncs_over nodes x (n + 1)
-  over-none h x l = over x l ∙ (sym (asyncs-none nodes n x h) ∙ ap (asyncs_over nodes x) (sym (add-one n)))
-
-  pub over-async : (y : ℕ) (list : Spared ℕ) → inner nodes n ≡ Some y → y < length nodes → length lists ≡ length nodes
-      → list.items ≡ get_or (lists_of lists) y [] ++ n ∷ [] → (x : ℕ) → x < length nodes
-      → get_or (lists_of (set lists y list)) x [] ≡ asyncs_over nodes x (n + 1)
-  over-async y list h m s e x l = go (cases_eq x y)
-    where
-      go : (x ≡ y) ⊎ (x ≡ y → ⊥) → get_or (lists_of (set lists y list)) x [] ≡ asyncs_over nodes x (n + 1)
-      go (inl q) =
-          let w : y < length lists = omega arith in
-          subst (λ (z : ℕ). get_or (lists_of (set lists y list)) z [] ≡ asyncs_over nodes z (n + 1)) (sym q)
-          (set_lists_same lists y list w ∙
-          (e ∙ (ap (λ (xs : List ℕ). xs ++ n ∷ []) (over y m) ∙ (sym (asyncs-same nodes n y h) ∙ ap (asyncs_over nodes y) (sym (add-one n))))))
-      go (inr k) =
-          set_lists_other lists y x list k ∙
-          (over x l ∙ (sym (asyncs-other nodes n x y h k) ∙ ap (asyncs_over nodes x) (sym (add-one n))))
+pub over-more : (nodes : List Node) (n : ℕ) (asyncs : List (List ℕ)) → length asyncs ≡ length nodes
+    → ((x : ℕ) → x < length nodes → get_or asyncs x [] ≡ asyncs_over nodes x n) → ((y : ℕ) → inner nodes n ≡ Some y → y < length nodes)
+    → (x : ℕ) → x < length nodes → get_or (with_async (inner nodes n) n asyncs) x [] ≡ asyncs_over nodes x (n + 1)
+over-more nodes n asyncs lengths over within x l = go (inner nodes n) refl ∙ ap (asyncs_over nodes x) (sym (add-one n))
+  where
+    go : (o : Option ℕ) → inner nodes n ≡ o → get_or (with_async o n asyncs) x [] ≡ asyncs_over nodes x (suc n)
+    go None h = over x l ∙ sym (asyncs-none nodes n x h)
+    go (Some y) h = by (cases_eq x y)
+      where
+        by : (x ≡ y) ⊎ (x ≡ y → ⊥) → get_or (set asyncs y (get_or asyncs y [] ++ n ∷ [])) x [] ≡ asyncs_over nodes x (suc n)
+        by (inl q) =
+            let m : y < length nodes = within y h in
+            subst (λ (z : ℕ). get_or (set asyncs y (get_or asyncs y [] ++ n ∷ [])) z [] ≡ asyncs_over nodes z (suc n)) (sym q)
+            (get_or-set_same asyncs y _ [] (omega (arith, m, lengths)) ∙ (ap (λ (xs : List ℕ). xs ++ n ∷ []) (over y m) ∙ sym (asyncs-same nodes n y h)))
+        by (inr k) = get_or-set_other asyncs y x _ [] k ∙ (over x l ∙ sym (asyncs-other nodes n x y h k))
 
 pub asyncs-zero : (nodes : List Node) (x : ℕ) → asyncs_over nodes x 0 ≡ []
 unfolding asyncs_over
