@@ -1,5 +1,5 @@
 -- The lists of the asyncs over each node and of the sources.
-use Rattle.std.proofs.Common.{◌≡◌, ℕ, suc, zero, ◌+◌, ◌<◌, ◌≤◌, ◌⊎◌, inl, inr, Bool, true, false, cond, Option, Some, None, List, [], ◌∷◌, ◌++◌, length, map, set, get_or, refl, sym, ap, ◌∙◌, subst, arith, add-one}
+use Rattle.std.proofs.Common.{◌≡◌, ℕ, suc, zero, ◌+◌, ◌<◌, ◌≤◌, ◌⊎◌, inl, inr, Bool, true, false, cond, Option, Some, None, List, [], ◌∷◌, ◌++◌, length, map, set, get_or, eqb, refl, sym, ap, ◌∙◌, subst, arith, add-one}
 use Rattle.std.specs.List.{slice_get}
 use Rattle.std.specs.Option.{option_map_or, option_and_then}
 use Rattle.std.proofs.lemmas.Bool.{cases_eq, false≢true, eqb-true, eq-eqb}
@@ -36,8 +36,8 @@ get_pushed (x ∷ xs) y = get_pushed xs y
 
 -- ---- lists of lists
 
-pub list_at : (lists : List (Spared ℕ)) (x : ℕ) (list : Spared ℕ) → x < length lists → list ≡ get_or lists x list → get_or (items_in lists) x [] ≡ list.items
-list_at lists x list l e = get_or-map (λ (s : Spared ℕ). s.items) lists x list [] l ∙ ap (λ (s : Spared ℕ). s.items) (sym e)
+pub list_at : (lists : List (Spared ℕ)) (x : ℕ) (d : Spared ℕ) → x < length lists → get_or (items_in lists) x [] ≡ (get_or lists x d).items
+list_at lists x d l = get_or-map (λ (s : Spared ℕ). s.items) lists x d [] l
 
 -- one list more, which is empty
 pub empty-push : (lists : List (Spared ℕ)) (list : Spared ℕ) → list.items ≡ [] → ((x : ℕ) → get_or (items_in lists) x [] ≡ []) → (x : ℕ)
@@ -48,11 +48,11 @@ empty-push (l ∷ lists) list e h zero = h 0
 empty-push (l ∷ lists) list e h (suc x) = empty-push lists list e (λ y. h (suc y)) x
 
 -- one list has one item more
-pub added-list : (lists : List (Spared ℕ)) (x n : ℕ) (list new : Spared ℕ) → x < length lists → list ≡ get_or lists x list → new.items ≡ list.items ++ n ∷ []
+pub added-list : (lists : List (Spared ℕ)) (x n : ℕ) (d new : Spared ℕ) → x < length lists → new.items ≡ (get_or lists x d).items ++ n ∷ []
     → items_in (set lists x new) ≡ set (items_in lists) x (get_or (items_in lists) x [] ++ n ∷ [])
-added-list lists x n list new l read e =
+added-list lists x n d new l e =
     map-set (λ (s : Spared ℕ). s.items) lists x new ∙
-    ap (set (items_in lists) x) (e ∙ ap (λ (xs : List ℕ). xs ++ n ∷ []) (sym (list_at lists x list l read)))
+    ap (set (items_in lists) x) (e ∙ ap (λ (xs : List ℕ). xs ++ n ∷ []) (sym (list_at lists x d l)))
 
 pub length-with_async : (o : Option ℕ) (a : ℕ) (asyncs : List (List ℕ)) → length (with_async o a asyncs) ≡ length asyncs
 length-with_async None a asyncs = refl
@@ -78,48 +78,48 @@ inner_within g graph k x h =
 over_inner : (nodes : List Node) (x a : ℕ) → is_over nodes x a ≡ true → inner nodes a ≡ Some x
 over_inner nodes x a h = go (inner nodes a) refl h
   where
-    go : (o : Option ℕ) → inner nodes a ≡ o → option_map_or (λ i. i == x) o false ≡ true → inner nodes a ≡ Some x
+    go : (o : Option ℕ) → inner nodes a ≡ o → option_map_or (λ i. eqb i x) o false ≡ true → inner nodes a ≡ Some x
     go None e q = absurd (false≢true q)
     go (Some i) e q = e ∙ ap (λ (y : ℕ). Some y) (eqb-true i x q)
 
 inner_over : (nodes : List Node) (x a : ℕ) → inner nodes a ≡ Some x → is_over nodes x a ≡ true
-inner_over nodes x a h = ap (λ (o : Option ℕ). option_map_or (λ i. i == x) o false) h ∙ eq-eqb x x refl
+inner_over nodes x a h = ap (λ (o : Option ℕ). option_map_or (λ i. eqb i x) o false) h ∙ eq-eqb x x refl
 
 -- each is an async over the node
 pub asyncs-over : (nodes : List Node) (x n i a : ℕ) → slice_get (asyncs_over nodes x n) i ≡ Some a → (a < n) × (inner nodes a ≡ Some x)
 unfolding asyncs_over
 asyncs-over nodes x zero i a h = absurd (none-some a h)
-asyncs-over nodes x (suc n) i a h = go (is_over nodes x n) refl h
+asyncs-over nodes x (suc n) i a h = go (is_over nodes x n) refl h (asyncs-over nodes x n i a)
   where
     later : (a < n) × (inner nodes a ≡ Some x) → (a < suc n) × (inner nodes a ≡ Some x)
-    later p = let l : a < n = p.0 in (omega arith, p.1)
+    later p = let l : a < n = p.0 in (omega (arith, l), p.1)
 
-    go : (t : Bool) → is_over nodes x n ≡ t → slice_get (asyncs_over nodes x n ++ cond t (n ∷ []) []) i ≡ Some a → (a < suc n) × (inner nodes a ≡ Some x)
-    go true q h = elim (get_push (asyncs_over nodes x n) n a i h) [
-      | inl e ↦ later (asyncs-over nodes x n i a e)
+    go : (t : Bool) → is_over nodes x n ≡ t → slice_get (asyncs_over nodes x n ++ cond t (n ∷ []) []) i ≡ Some a
+        → (slice_get (asyncs_over nodes x n) i ≡ Some a → (a < n) × (inner nodes a ≡ Some x)) → (a < suc n) × (inner nodes a ≡ Some x)
+    go true q h ih = elim (get_push (asyncs_over nodes x n) n a i h) [
+      | inl e ↦ later (ih e)
       | inr e ↦ (omega (arith, e.1), ap (inner nodes) e.1 ∙ over_inner nodes x n q)
     ]
-    go false q h = later (asyncs-over nodes x n i a (ap (λ (xs : List ℕ). slice_get xs i) (sym (append-nil (asyncs_over nodes x n))) ∙ h))
+    go false q h ih = later (ih (ap (λ (xs : List ℕ). slice_get xs i) (sym (append-nil (asyncs_over nodes x n))) ∙ h))
 
 -- and each async over the node is there
 pub over-asyncs : (nodes : List Node) (x n a : ℕ) → a < n → inner nodes a ≡ Some x → IsIn (asyncs_over nodes x n) a
 unfolding asyncs_over
-over-asyncs nodes x zero a l h = absurd (omega arith)
-over-asyncs nodes x (suc n) a l h = go (cases_eq a n) (is_over nodes x n) refl
+over-asyncs nodes x zero a l h = absurd (omega (arith, l))
+over-asyncs nodes x (suc n) a l h = go (cases_eq a n) (is_over nodes x n) refl (λ m. over-asyncs nodes x n a m h)
   where
-    go : (a ≡ n) ⊎ (a ≡ n → ⊥) → (t : Bool) → is_over nodes x n ≡ t → IsIn (asyncs_over nodes x n ++ cond t (n ∷ []) []) a
-    go (inl e) true q =
-        (length (asyncs_over nodes x n), get_pushed (asyncs_over nodes x n) n ∙ ap (λ (y : ℕ). Some y) (sym e))
-    go (inl e) false q = absurd (false≢true (sym q ∙ (ap (is_over nodes x) (sym e) ∙ inner_over nodes x a h)))
-    go (inr k) true q = let p = over-asyncs nodes x n a (omega arith) h in (p.0, get_more (asyncs_over nodes x n) n a p.0 p.1)
-    go (inr k) false q =
-        let p = over-asyncs nodes x n a (omega arith) h in
-        (p.0, ap (λ (xs : List ℕ). slice_get xs p.0) (append-nil (asyncs_over nodes x n)) ∙ p.1)
+    go : (a ≡ n) ⊎ (a ≡ n → ⊥) → (t : Bool) → is_over nodes x n ≡ t → (a < n → IsIn (asyncs_over nodes x n) a)
+        → IsIn (asyncs_over nodes x n ++ cond t (n ∷ []) []) a
+    go (inl e) true q ih = (length (asyncs_over nodes x n), get_pushed (asyncs_over nodes x n) n ∙ ap (λ (y : ℕ). Some y) (sym e))
+    go (inl e) false q ih = absurd (false≢true (sym q ∙ (ap (is_over nodes x) (sym e) ∙ inner_over nodes x a h)))
+    go (inr k) true q ih = let p = ih (omega (arith, l)) in (p.0, get_more (asyncs_over nodes x n) n a p.0 p.1)
+    go (inr k) false q ih =
+        let p = ih (omega (arith, l)) in (p.0, ap (λ (xs : List ℕ). slice_get xs p.0) (append-nil (asyncs_over nodes x n)) ∙ p.1)
 
 pub asyncs-distinct : (nodes : List Node) (x n : ℕ) → AreDistinct (asyncs_over nodes x n)
 unfolding asyncs_over
 asyncs-distinct nodes x zero i j a h k = absurd (none-some a h)
-asyncs-distinct nodes x (suc n) i j a h k = go (is_over nodes x n) h k
+asyncs-distinct nodes x (suc n) i j a h k = go (is_over nodes x n) h k (asyncs-distinct nodes x n i j a)
   where
     before : List ℕ
     before = asyncs_over nodes x n
@@ -127,23 +127,24 @@ asyncs-distinct nodes x (suc n) i j a h k = go (is_over nodes x n) h k
     less : (i : ℕ) → slice_get before i ≡ Some a → a < n
     less i e = (asyncs-over nodes x n i a e).0
 
-    both : (slice_get before i ≡ Some a) ⊎ ((i ≡ length before) × (a ≡ n)) → (slice_get before j ≡ Some a) ⊎ ((j ≡ length before) × (a ≡ n)) → i ≡ j
-    both (inl e) (inl f) = asyncs-distinct nodes x n i j a e f
-    both (inl e) (inr f) = absurd (omega (arith, less i e, f.1))
-    both (inr e) (inl f) = absurd (omega (arith, less j f, e.1))
-    both (inr e) (inr f) = e.0 ∙ sym f.0
+    both : (slice_get before i ≡ Some a) ⊎ ((i ≡ length before) × (a ≡ n)) → (slice_get before j ≡ Some a) ⊎ ((j ≡ length before) × (a ≡ n))
+        → (slice_get before i ≡ Some a → slice_get before j ≡ Some a → i ≡ j) → i ≡ j
+    both (inl e) (inl f) ih = ih e f
+    both (inl e) (inr f) ih = absurd (omega (arith, less i e, f.1))
+    both (inr e) (inl f) ih = absurd (omega (arith, less j f, e.1))
+    both (inr e) (inr f) ih = e.0 ∙ sym f.0
 
-    go : (t : Bool) → slice_get (before ++ cond t (n ∷ []) []) i ≡ Some a → slice_get (before ++ cond t (n ∷ []) []) j ≡ Some a → i ≡ j
-    go true h k = both (get_push before n a i h) (get_push before n a j k)
-    go false h k =
-        asyncs-distinct nodes x n i j a (ap (λ (xs : List ℕ). slice_get xs i) (sym (append-nil before)) ∙ h)
-        (ap (λ (xs : List ℕ). slice_get xs j) (sym (append-nil before)) ∙ k)
+    go : (t : Bool) → slice_get (before ++ cond t (n ∷ []) []) i ≡ Some a → slice_get (before ++ cond t (n ∷ []) []) j ≡ Some a
+        → (slice_get before i ≡ Some a → slice_get before j ≡ Some a → i ≡ j) → i ≡ j
+    go true h k ih = both (get_push before n a i h) (get_push before n a j k) ih
+    go false h k ih =
+        ih (ap (λ (xs : List ℕ). slice_get xs i) (sym (append-nil before)) ∙ h) (ap (λ (xs : List ℕ). slice_get xs j) (sym (append-nil before)) ∙ k)
 
 -- one node further: the node is put at the end of one list, if it is an async
 pub asyncs-none : (nodes : List Node) (n x : ℕ) → inner nodes n ≡ None → asyncs_over nodes x (suc n) ≡ asyncs_over nodes x n
 unfolding asyncs_over
 asyncs-none nodes n x h =
-    let t : is_over nodes x n ≡ false = ap (λ (o : Option ℕ). option_map_or (λ i. i == x) o false) h in
+    let t : is_over nodes x n ≡ false = ap (λ (o : Option ℕ). option_map_or (λ i. eqb i x) o false) h in
     ap (λ (b : Bool). asyncs_over nodes x n ++ cond b (n ∷ []) []) t ∙ append-nil (asyncs_over nodes x n)
 
 pub asyncs-same : (nodes : List Node) (n x : ℕ) → inner nodes n ≡ Some x → asyncs_over nodes x (suc n) ≡ asyncs_over nodes x n ++ n ∷ []
@@ -203,3 +204,12 @@ asyncs-zero nodes x = refl
 pub sources-zero : (nodes : List Node) → sources_of nodes 0 ≡ []
 unfolding sources_of
 sources-zero nodes = refl
+
+-- one node further
+module _ (nodes : List Node) (n : ℕ) (before after : List ℕ) (so_far : before ≡ sources_of nodes n) where
+  pub sources-then : is_source nodes n ≡ true → after ≡ before ++ n ∷ [] → after ≡ sources_of nodes (n + 1)
+  sources-then h e =
+      e ∙ (ap (λ (xs : List ℕ). xs ++ n ∷ []) so_far ∙ (sym (sources-more nodes n h) ∙ ap (sources_of nodes) (sym (add-one n))))
+
+  pub sources-else : is_source nodes n ≡ false → after ≡ before → after ≡ sources_of nodes (n + 1)
+  sources-else h e = e ∙ (so_far ∙ (sym (sources-same nodes n h) ∙ ap (sources_of nodes) (sym (add-one n))))

@@ -11,5 +11,5 @@ bounds-lists-argument c = c.requires c.in-Async.argument (ap inner_of_kind c.in-
 pub returns-in_ok-push : goal.returns-in_ok-push
 returns-in_ok-push c =
     added-list c.args.lists.now c.in-Async.argument c.args.node c.index-lists-argument.result c.push.new.self
-    (c.requires c.in-Async.argument (ap inner_of_kind c.in-Async.is)) c.index-lists-argument.is c.in_ok-push.ensures.ok ∙
+    (c.requires c.in-Async.argument (ap inner_of_kind c.in-Async.is)) c.in_ok-push.ensures.ok ∙
     ap (λ (kind : NodeKind). with_async (inner_of_kind kind) c.args.node (items_in c.args.lists.now)) (sym c.in-Async.is)
