@@ -1,2 +1,4 @@
 pub mod Wiring
 pub mod Rows
+pub mod Reading
+pub mod Copies

@@ -72,8 +72,8 @@ pub fn make_outlets(alloc: Global, readers: &[Readers]) -> Result<Vec<Outlet>, M
     ensures { IfOk result (λ outlets. outlets.items ≡ map (λ readers. new_outlet (length readers)) readers.now) }
 {
     let mut outlets = Vec::with_capacity(alloc, readers.len()).map_err(|_| Memory)?;
-    for readers in readers {
-        let outlet = Outlet::make(alloc, readers.len())?;
+    for own in readers {
+        let outlet = Outlet::make(alloc, own.len())?;
         outlets.push(outlet).map_err(|_| Memory)?;
     }
     Ok(outlets)
