@@ -1,4 +1,7 @@
 pub mod Wiring
 pub mod Rows
-pub mod Reading
 pub mod Copies
+pub mod Reading
+pub mod Writing
+pub mod Sending
+pub mod ReadersOfNodes

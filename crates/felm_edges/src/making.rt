@@ -19,7 +19,7 @@ pub fn make_rows(alloc: Global, graph: &Graph, capacity: u32) -> Result<Vec<Port
     let mut rows = Vec::with_capacity(alloc, count).map_err(|_| Memory)?;
     for node in 0..count {
         let sources = arguments_of(graph, node as u32);
-        let ports = Ports::make(alloc, sources.as_slice(), capacity)?;
+        let ports = Ports::make(alloc, &sources, capacity)?;
         rows.push(ports).map_err(|_| Memory)?;
     }
     Ok(rows)
