@@ -107,6 +107,10 @@ there_after f rows x xs there i y e =
     let s : length (row_of (changed_at f rows x) y.node) ≡ length (row_of rows y.node) = length_changed f rows x y.node (there 0 x refl) in
     omega arith
 
+pub each_rows : (f : EdgeValue → EdgeValue) (rows : List (List EdgeValue)) (xs : List Reader) → length (changed_at_each f rows xs) ≡ length rows
+each_rows f rows [] = refl
+each_rows f rows (x ∷ xs) = each_rows f (changed_at f rows x) xs ∙ length-set rows x.node _
+
 pub each_length : (f : EdgeValue → EdgeValue) (rows : List (List EdgeValue)) (xs : List Reader) (k : ℕ) → AllThere rows xs
     → length (row_of (changed_at_each f rows xs) k) ≡ length (row_of rows k)
 each_length f rows [] k there = refl

@@ -1,8 +1,8 @@
 -- What the writing calls do to the parts of edges.
 use Rattle.std.proofs.Common.{◌≡◌, ◌≢◌, ℕ, ◌+◌, ◌<◌, ◌≤◌, ◌⊎◌, inl, inr, Bool, true, false, List, [], ◌∷◌, ◌++◌, length, map, drop, set, get_or, Option, Some, None, Result, Ok, Err, refl, sym, ap, ◌∙◌, subst, arith, IsSome, OnOk, OnErr, length-append, length-drop}
 use Rattle.std.specs.List.{slice_get}
-use Rattle.std.proofs.lemmas.Bool.{cases_eq, false≢true}
-use Rattle.std.proofs.lemmas.List.{length-map, length-set, map-set, set-get_or, get_or-set_same, get_or-set_other}
+use Rattle.std.proofs.lemmas.Bool.{cases_eq, cases_lt, false≢true}
+use Rattle.std.proofs.lemmas.List.{length-map, length-set, map-set, set-get_or, get_or-set_same, get_or-set_other, get_or_read, get_or_past}
 use Rattle.felm_term.specs.declared.message.Message.{Message}
 use Rattle.felm_edges.specs.EdgesValue.{EdgesValue, IsWired, ReadsIn, edge_in, prepared_in, HasRoomIn}
 use Rattle.felm_edges.specs.Changes.{PreparedFrom, PutFrom, DroppedFrom}
@@ -10,7 +10,7 @@ use Rattle.felm_edges.specs.Parts.{EdgeValue, OutletValue, no_edge, new_outlet, 
 use Rattle.felm_edges.specs.Readers.{AreReaders, readers_of}
 use Rattle.felm_edges.specs.Inside.{edges_from, IsWithin, IsStocked, GoTogether}
 use Rattle.felm_edges.specs.declared.readers.Reader.{Reader}
-use Rattle.felm_edges.proofs.Rows.{get_or_mapped, messages_at, each_length, each_sources, each_other, each_same}
+use Rattle.felm_edges.proofs.Rows.{get_or_mapped, messages_at, each_rows, each_length, each_sources, each_other, each_same}
 use Rattle.felm_edges.proofs.Reading.{wired_there, there_wired, readers_there, prepared_at}
 
 abbrev source : EdgeValue → ℕ
@@ -40,6 +40,19 @@ prepared_from capacity rows outlets now k o message v l m = record {
   prepared = prepared_same outlets k o l ∙ m;
   others = λ x n. prepared_other outlets k x o n ∙ ap (λ (e : EdgesValue). prepared_in e x) v;
 }
+
+-- by the answer of the outlet
+pub prepared_ok : {E : Type 0} (capacity : ℕ) (rows : List (List EdgeValue)) (outlets : List OutletValue) (now : EdgesValue) (k : ℕ) (o : OutletValue)
+    (result : Result (Unit {0}) E) (message : Message) (readers : ℕ) → edges_from capacity rows outlets ≡ now → k < length outlets
+    → OnOk result ((o.message ≡ Some message) × (o.left ≡ readers)) → OnOk result (PreparedFrom now k (Some message) (edges_from capacity rows (set outlets k o)))
+prepared_ok capacity rows outlets now k o (Ok u) message readers v l h = prepared_from capacity rows outlets now k o (Some message) v l h.0
+prepared_ok capacity rows outlets now k o (Err e) message readers v l h = tt
+
+pub prepared_err : {E : Type 0} (capacity : ℕ) (rows : List (List EdgeValue)) (outlets : List OutletValue) (now : EdgesValue) (k : ℕ) (o : OutletValue)
+    (result : Result (Unit {0}) E) → edges_from capacity rows outlets ≡ now → k < length outlets
+    → OnErr result (o.message ≡ None) → OnErr result (PreparedFrom now k None (edges_from capacity rows (set outlets k o)))
+prepared_err capacity rows outlets now k o (Ok u) v l h = tt
+prepared_err capacity rows outlets now k o (Err e) v l h = prepared_from capacity rows outlets now k o None v l h
 
 stocked_after : (readers : List (List Reader)) (outlets : List OutletValue) (k : ℕ) (o : OutletValue)
     → ((x : ℕ) → x < length outlets → IsStocked (length (readers_of readers x)) (get_or outlets x (new_outlet 0)))
@@ -215,15 +228,14 @@ put_from capacity rows readers outlets now k o room v together l p =
 
 pub putting_keeps : (capacity : ℕ) (rows : List (List EdgeValue)) (readers : List (List Reader)) (outlets : List OutletValue) (k : ℕ)
     (o : Option Message) (room : ℕ) → GoTogether capacity rows readers outlets → HasRoomIn (edges_from capacity rows outlets) k
-    → length (readers_of readers k) ≤ room → length (sent_rows o rows readers k) ≡ length rows
-    → GoTogether capacity (sent_rows o rows readers k) readers (set outlets k (new_outlet room))
-putting_keeps capacity rows readers outlets k o room together has enough same = record {
+    → length (readers_of readers k) ≤ room → GoTogether capacity (sent_rows o rows readers k) readers (set outlets k (new_outlet room))
+putting_keeps capacity rows readers outlets k o room together has enough = record {
   least = together.least;
   most = together.most;
   within = λ r port there. within r port there (cases_eq (edge_of rows r port).source k);
   readers_are = subst (λ (w : List (List ℕ)). AreReaders w readers) (sym (each_sources (with_message o) rows (readers_of readers k) (keeps_source o)))
       together.readers_are;
-  places = length-set outlets k (new_outlet room) ∙ together.places ∙ sym same;
+  places = length-set outlets k (new_outlet room) ∙ together.places ∙ sym (each_rows (with_message o) rows (readers_of readers k));
   stocked = stocked_after readers outlets k (new_outlet room) together.stocked (record { room = enough; copies = λ s. absurd (false≢true s) });
 }
   where
@@ -243,3 +255,33 @@ putting_keeps capacity rows readers outlets k o room together has enough same = 
             let f : length (edge_of rows r port).messages < capacity = subst (λ (ms : List Message). length ms < capacity) (messages_at rows r port) (has r port w) in
             subst (λ (x : EdgeValue). IsWithin capacity x) (sym (sent_edge o rows readers k r port together.readers_are w))
             (within_with_message capacity o (edge_of rows r port) (together.within r port t) f)
+
+-- ---- what the code has at hand
+
+-- the outlet of a node
+pub outlet_read : (outlets : List OutletValue) (k : ℕ) (o : OutletValue) → k < length outlets → o ≡ get_or outlets k o → o ≡ get_or outlets k (new_outlet 0)
+outlet_read outlets k o l h = get_or_read outlets k o l h (new_outlet 0)
+
+pub message_read : (capacity : ℕ) (rows : List (List EdgeValue)) (outlets : List OutletValue) (now : EdgesValue) (k : ℕ) (o : OutletValue)
+    → edges_from capacity rows outlets ≡ now → k < length outlets → o ≡ get_or outlets k o → prepared_in now k ≡ o.message
+message_read capacity rows outlets now k o v l h =
+    ap (λ (n : EdgesValue). prepared_in n k) (sym v) ∙ prepared_at outlets k ∙ ap (λ (x : OutletValue). x.message) (sym (outlet_read outlets k o l h))
+
+-- a node for which a message is prepared has an outlet
+pub prepared_within : (capacity : ℕ) (rows : List (List EdgeValue)) (outlets : List OutletValue) (now : EdgesValue) (k : ℕ)
+    → edges_from capacity rows outlets ≡ now → IsSome (prepared_in now k) → k < length outlets
+prepared_within capacity rows outlets now k v s = go (cases_lt k (length outlets))
+  where
+    go : (k < length outlets) ⊎ (length outlets ≤ k) → k < length outlets
+    go (inl l) = l
+    go (inr m) =
+        let e : prepared_in now k ≡ None =
+        ap (λ (n : EdgesValue). prepared_in n k) (sym v) ∙ prepared_at outlets k ∙
+        ap (λ (x : OutletValue). x.message) (get_or_past outlets k (new_outlet 0) m) in
+        absurd (false≢true (subst (λ (x : Option Message). IsSome x) e s))
+
+-- what its outlet has for its readers
+pub stocked_read : (capacity : ℕ) (rows : List (List EdgeValue)) (readers : List (List Reader)) (outlets : List OutletValue) (k : ℕ) (o : OutletValue)
+    → GoTogether capacity rows readers outlets → k < length outlets → o ≡ get_or outlets k o → IsStocked (length (readers_of readers k)) o
+stocked_read capacity rows readers outlets k o together l h =
+    subst (λ (x : OutletValue). IsStocked (length (readers_of readers k)) x) (sym (outlet_read outlets k o l h)) (together.stocked k l)
