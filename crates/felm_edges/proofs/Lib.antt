@@ -5,3 +5,4 @@ pub mod Reading
 pub mod Writing
 pub mod Sending
 pub mod ReadersOfNodes
+pub mod NewEdges

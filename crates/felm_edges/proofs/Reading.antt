@@ -35,6 +35,15 @@ there_wired rows r port h =
     slice_get-get_or (map source row) port 0 l ∙ ap (λ (s : ℕ). Some s) (get_or_mapped source row port no_edge) in
     subst (λ (xs : List ℕ). slice_get xs port ≡ Some (edge_of rows r port).source) (sym (sources_at rows r)) q
 
+-- an edge as the code reads it
+pub edge_wired : (rows : List (List EdgeValue)) (node port : ℕ) (d shown : List EdgeValue) (edge : EdgeValue) → node < length rows
+    → shown ≡ get_or rows node d → port < length shown → edge ≡ get_or shown port edge → IsWired (sources_of rows) node port edge.source
+edge_wired rows node port d shown edge l s p e =
+    let q : shown ≡ row_of rows node = s ∙ get_or_default rows node d [] l in
+    let t : port < length (row_of rows node) = subst (λ (row : List EdgeValue). port < length row) q p in
+    let r : edge ≡ edge_of rows node port = get_or_read shown port edge p e no_edge ∙ ap (λ (row : List EdgeValue). get_or row port no_edge) q in
+    subst (λ (x : EdgeValue). IsWired (sources_of rows) node port x.source) (sym r) (there_wired rows node port t)
+
 -- a node has as many edges as it reads nodes
 pub length-read : (rows : List (List EdgeValue)) (k : ℕ) → length (get_or (sources_of rows) k []) ≡ length (row_of rows k)
 length-read rows k = ap length (sources_at rows k) ∙ length-map (row_of rows k) source

@@ -1,7 +1,7 @@
 -- A message that is put at one port after another.
 use Rattle.std.proofs.Common.{◌≡◌, ℕ, zero, suc, ◌+◌, ◌<◌, ◌≤◌, List, [], ◌∷◌, ◌++◌, length, set, take, get_or, Option, Some, refl, sym, ap, ◌∙◌, subst, arith}
 use Rattle.std.specs.List.{slice_get, All}
-use Rattle.std.proofs.lemmas.List.{take_more, get_or_read, length-set}
+use Rattle.std.proofs.lemmas.List.{take_more, get_or_default}
 use Rattle.std.proofs.lemmas.Option.{none-some, slice_get_within, get_or_from_slice_get, slice_get-get_or}
 use Rattle.felm_term.specs.declared.message.Message.{Message}
 use Rattle.felm_edges.specs.Parts.{EdgeValue, no_edge, row_of, edge_of, IsThere, HasPlace, HasPlaceAt, with_message, changed_at, changed_at_each}
@@ -32,16 +32,16 @@ next_edge f rows xs n x there once h =
     omega arith)
 
 -- the port of the next one is there, and has a place
-pub next_there : (f : EdgeValue → EdgeValue) (rows now : List (List EdgeValue)) (xs : List Reader) (n : ℕ) (x : Reader) (row : List EdgeValue)
-    → AllThere rows xs → slice_get xs n ≡ Some x → now ≡ changed_at_each f rows (take n xs) → row ≡ get_or now x.node row
-    → (x.port < length row) × (row ≡ row_of now x.node)
-next_there f rows now xs n x row there h e r =
+pub next_there : (f : EdgeValue → EdgeValue) (rows now : List (List EdgeValue)) (xs : List Reader) (n : ℕ) (x : Reader) (d : List EdgeValue)
+    → AllThere rows xs → slice_get xs n ≡ Some x → now ≡ changed_at_each f rows (take n xs)
+    → (x.port < length (get_or now x.node d)) × (get_or now x.node d ≡ row_of now x.node)
+next_there f rows now xs n x d there h e =
     let s : length (row_of now x.node) ≡ length (row_of rows x.node) =
     ap (λ (rs : List (List EdgeValue)). length (row_of rs x.node)) e ∙ each_length f rows (take n xs) x.node (taken_there rows xs n there) in
     let t : x.port < length (row_of rows x.node) = there n x h in
     let u : x.port < length (row_of now x.node) = omega arith in
-    let q : row ≡ row_of now x.node = get_or_read now x.node row (node_there now x.node x.port u) r [] in
-    ((let w : length row ≡ length (row_of now x.node) = ap length q in omega arith), q)
+    let q : get_or now x.node d ≡ row_of now x.node = get_or_default now x.node d [] (node_there now x.node x.port u) in
+    ((let w : length (get_or now x.node d) ≡ length (row_of now x.node) = ap length q in omega arith), q)
 
 pub next_place : (f : EdgeValue → EdgeValue) (rows now : List (List EdgeValue)) (xs : List Reader) (n : ℕ) (x : Reader) (row : List EdgeValue)
     → AllThere rows xs → AllOnce xs → All (HasPlaceAt rows) xs → slice_get xs n ≡ Some x → now ≡ changed_at_each f rows (take n xs)

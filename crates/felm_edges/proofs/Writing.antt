@@ -2,7 +2,9 @@
 use Rattle.std.proofs.Common.{◌≡◌, ◌≢◌, ℕ, ◌+◌, ◌<◌, ◌≤◌, ◌⊎◌, inl, inr, Bool, true, false, List, [], ◌∷◌, ◌++◌, length, map, drop, set, get_or, Option, Some, None, Result, Ok, Err, refl, sym, ap, ◌∙◌, subst, arith, IsSome, OnOk, OnErr, length-append, length-drop}
 use Rattle.std.specs.List.{slice_get}
 use Rattle.std.proofs.lemmas.Bool.{cases_eq, cases_lt, false≢true}
-use Rattle.std.proofs.lemmas.List.{length-map, length-set, map-set, set-get_or, get_or-set_same, get_or-set_other, get_or_read, get_or_past}
+use Rattle.std.proofs.lemmas.List.{length-map, length-set, map-set, set-get_or, get_or-set_same, get_or-set_other, get_or_read, get_or_past, with_items_is}
+use Rattle.std.specs.Vec.{Vec, with_items}
+use Rattle.std.specs.declared.alloc.Global.{Global}
 use Rattle.felm_term.specs.declared.message.Message.{Message}
 use Rattle.felm_edges.specs.EdgesValue.{EdgesValue, IsWired, ReadsIn, edge_in, prepared_in, HasRoomIn}
 use Rattle.felm_edges.specs.Changes.{PreparedFrom, PutFrom, DroppedFrom}
@@ -285,3 +287,33 @@ pub stocked_read : (capacity : ℕ) (rows : List (List EdgeValue)) (readers : Li
     → GoTogether capacity rows readers outlets → k < length outlets → o ≡ get_or outlets k o → IsStocked (length (readers_of readers k)) o
 stocked_read capacity rows readers outlets k o together l h =
     subst (λ (x : OutletValue). IsStocked (length (readers_of readers k)) x) (sym (outlet_read outlets k o l h)) (together.stocked k l)
+
+-- the rows after the code has put the message
+rows_put : (rows : Vec (List EdgeValue) Global) (readers : List (List Reader)) (k : ℕ) (o : Option Message) (new shown : List (List EdgeValue))
+    (xs : List Reader) → shown ≡ rows.items → xs ≡ readers_of readers k → new ≡ changed_at_each (with_message o) shown xs
+    → (with_items rows new).items ≡ sent_rows o rows.items readers k
+rows_put rows readers k o new shown xs s x e =
+    let n : new ≡ sent_rows o rows.items readers k =
+    e ∙ ap (λ (rs : List (List EdgeValue)). changed_at_each (with_message o) rs xs) s ∙
+    ap (λ (rs : List Reader). changed_at_each (with_message o) rows.items rs) x in
+    let l : length new ≡ rows.len =
+    ap length n ∙ each_rows (with_message o) rows.items (readers_of readers k) ∙ sym rows.ok.0 in
+    with_items_is rows new l ∙ n
+
+pub put_together : (capacity : ℕ) (rows : Vec (List EdgeValue) Global) (readers : List (List Reader)) (outlets : List OutletValue) (k : ℕ)
+    (o : Option Message) (room : ℕ) (new shown : List (List EdgeValue)) (xs : List Reader) (outlet : OutletValue) → shown ≡ rows.items
+    → xs ≡ readers_of readers k → new ≡ changed_at_each (with_message o) shown xs → outlet ≡ new_outlet room
+    → GoTogether capacity (sent_rows o rows.items readers k) readers (set outlets k (new_outlet room))
+    → GoTogether capacity (with_items rows new).items readers (set outlets k outlet)
+put_together capacity rows readers outlets k o room new shown xs outlet s x e f h =
+    subst (λ (rs : List (List EdgeValue)). GoTogether capacity rs readers (set outlets k outlet)) (sym (rows_put rows readers k o new shown xs s x e))
+    (subst (λ (y : OutletValue). GoTogether capacity (sent_rows o rows.items readers k) readers (set outlets k y)) (sym f) h)
+
+pub put_edges : (capacity : ℕ) (rows : Vec (List EdgeValue) Global) (readers : List (List Reader)) (outlets : List OutletValue) (now : EdgesValue)
+    (k : ℕ) (o : Option Message) (room : ℕ) (new shown : List (List EdgeValue)) (xs : List Reader) (outlet : OutletValue) → shown ≡ rows.items
+    → xs ≡ readers_of readers k → new ≡ changed_at_each (with_message o) shown xs → outlet ≡ new_outlet room
+    → PutFrom now k (edges_from capacity (sent_rows o rows.items readers k) (set outlets k (new_outlet room)))
+    → PutFrom now k (edges_from capacity (with_items rows new).items (set outlets k outlet))
+put_edges capacity rows readers outlets now k o room new shown xs outlet s x e f h =
+    subst (λ (rs : List (List EdgeValue)). PutFrom now k (edges_from capacity rs (set outlets k outlet))) (sym (rows_put rows readers k o new shown xs s x e))
+    (subst (λ (y : OutletValue). PutFrom now k (edges_from capacity (sent_rows o rows.items readers k) (set outlets k y))) (sym f) h)

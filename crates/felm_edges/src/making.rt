@@ -1,5 +1,6 @@
 //! The parts of new edges.
 ghost use Rattle.std.specs.Prelude.{◌≡◌, ◌+◌, ◌<◌, ◌^◌, ℕ, [], length, map, replicate, IfOk, OnOk};
+ghost use Rattle.felm_graph.specs.Graphs.{IsGraph};
 ghost use Rattle.felm_edges.specs.EdgesValue.{wiring_of, IsWired};
 ghost use Rattle.felm_edges.specs.Parts.{new_edge, new_outlet, sources_of};
 ghost use Rattle.felm_edges.specs.Readers.{AreReaders, AreReadersBefore};
@@ -13,7 +14,8 @@ use std::alloc::Global;
 
 /// The edges into each node, all empty.
 pub fn make_rows(alloc: Global, graph: &Graph, capacity: u32) -> Result<Vec<Ports>, Memory>
-    ensures { IfOk result (λ rows. rows.items ≡ map (map (new_edge capacity)) (wiring_of graph.now.nodes)) }
+    ensures rows { IfOk result (λ rows. rows.items ≡ map (map (new_edge capacity)) (wiring_of graph.now.nodes)) }
+    ensures graph { IsGraph graph.now }
 {
     let count = graph.nodes().len();
     let mut rows = Vec::with_capacity(alloc, count).map_err(|_| Memory)?;

@@ -13,7 +13,7 @@ put-requires-clause-there c =
     let x : Reader = get_or xs n (record { node = 0; port = 0 }) in
     (next_there (with_message c.args.outlet.now.message) c.args.rows.now c.loop-reader.rows xs n x c.index-rows-reader.result
     (there_each c.args.rows.now xs c.requires.there) (slice_get-get_or xs n (record { node = 0; port = 0 }) c.loop-reader-test.true)
-    c.loop-reader.invariant.sent c.index-rows-reader.is).0
+    c.loop-reader.invariant.sent).0
 
 pub put-requires-clause-place : goal.put-requires-clause-place
 put-requires-clause-place c =
@@ -23,8 +23,8 @@ put-requires-clause-place c =
     let there = there_each c.args.rows.now xs c.requires.there in
     let at : slice_get xs n ≡ Some x = slice_get-get_or xs n (record { node = 0; port = 0 }) c.loop-reader-test.true in
     let row = next_there (with_message c.args.outlet.now.message) c.args.rows.now c.loop-reader.rows xs n x c.index-rows-reader.result there at
-    c.loop-reader.invariant.sent c.index-rows-reader.is in
-    next_place (with_message c.args.outlet.now.message) c.args.rows.now c.loop-reader.rows xs n x c.index-rows-reader.result there c.requires.distinct
+    c.loop-reader.invariant.sent in
+    next_place (with_message c.args.outlet.now.message) c.args.rows.now c.loop-reader.rows xs n x (get_or c.loop-reader.rows x.node c.index-rows-reader.result) there c.requires.distinct
     c.requires.places at c.loop-reader.invariant.sent row.1
 
 pub loop-reader-preserved : goal.loop-reader-preserved
@@ -35,9 +35,9 @@ loop-reader-preserved c =
     let there = there_each c.args.rows.now xs c.requires.there in
     let at : slice_get xs n ≡ Some x = slice_get-get_or xs n (record { node = 0; port = 0 }) c.loop-reader-test.true in
     let row = next_there (with_message c.args.outlet.now.message) c.args.rows.now c.loop-reader.rows xs n x c.index-rows-reader.result there at
-    c.loop-reader.invariant.sent c.index-rows-reader.is in
+    c.loop-reader.invariant.sent in
     record {
-      sent = next_sent c.args.outlet.now.message c.args.rows.now c.loop-reader.rows xs n x c.index-rows-reader.result c.put.new.self c.take.result at
+      sent = next_sent c.args.outlet.now.message c.args.rows.now c.loop-reader.rows xs n x (get_or c.loop-reader.rows x.node c.index-rows-reader.result) c.put.new.self c.take.result at
           c.loop-reader.invariant.sent row.1 (sym c.loop-reader.invariant.message ∙ c.take.ensures.value) c.put.ensures;
       message = c.take.ensures.same ∙ c.loop-reader.invariant.message;
       left = omega (arith, c.take.ensures.left, c.loop-reader.invariant.left);

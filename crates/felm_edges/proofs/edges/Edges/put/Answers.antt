@@ -8,8 +8,7 @@ use Rattle.felm_edges.specs.Readers.{readers_of, AllOnce}
 use Rattle.felm_edges.specs.Inside.{edges_from, GoTogether}
 use Rattle.felm_edges.specs.declared.readers.Reader.{Reader}
 use Rattle.felm_edges.proofs.Reading.{shown_readers, readers_there, all_there, room_is}
-use Rattle.felm_edges.proofs.Rows.{each_rows}
-use Rattle.felm_edges.proofs.Writing.{put_from, putting_keeps, prepared_within, message_read, stocked_read, sent_rows}
+use Rattle.felm_edges.proofs.Writing.{put_from, putting_keeps, prepared_within, message_read, stocked_read, put_together, put_edges}
 use Rattle.felm_edges.proofs.edges.Edges.put.Goals as goal
 
 pub send-requires-clause-there : goal.send-requires-clause-there
@@ -57,7 +56,29 @@ send-requires-clause-copies c =
     (subst (λ (o : Option Message). IsSome o) message c.requires.prepared) ∙ ap length (sym shown)
 
 pub invariant_of-self : goal.invariant_of-self
-invariant_of-self c = ?
+invariant_of-self c =
+    let a = c.self.inside in
+    let has = prepared_within a.capacity a.rows.items a.outlets.items c.args.self.now c.args.node c.self.view_is c.requires.prepared in
+    let within : c.args.node < length a.rows.items = omega (arith, c.self.invariant.places) in
+    let shown : c.as_slice-readers.result.now ≡ readers_of a.readers.items c.args.node =
+    c.as_slice-readers.ensures ∙ shown_readers a.capacity a.rows.items a.readers.items a.outlets.items c.args.node c.index.result.now c.self.invariant within c.index.ensures in
+    let o = c.index_mut.result.now in
+    let room : HasRoomIn (edges_from a.capacity a.rows.items a.outlets.items) c.args.node =
+    subst (λ (n : EdgesValue). HasRoomIn n c.args.node) (sym c.self.view_is) c.requires.room in
+    let stocked = stocked_read a.capacity a.rows.items a.readers.items a.outlets.items c.args.node o c.self.invariant has c.index_mut.ensures.value in
+    put_together a.capacity a.rows a.readers.items a.outlets.items c.args.node o.message o.room c.send.new.rows c.deref_mut.result.now
+    c.as_slice-readers.result.now c.send.new.outlet c.deref_mut.ensures.value shown c.send.ensures.sent c.send.ensures.none
+    (putting_keeps a.capacity a.rows.items a.readers.items a.outlets.items c.args.node o.message o.room c.self.invariant room stocked.room)
 
 pub returns : goal.returns
-returns c = ?
+returns c =
+    let a = c.self.inside in
+    let has = prepared_within a.capacity a.rows.items a.outlets.items c.args.self.now c.args.node c.self.view_is c.requires.prepared in
+    let within : c.args.node < length a.rows.items = omega (arith, c.self.invariant.places) in
+    let shown : c.as_slice-readers.result.now ≡ readers_of a.readers.items c.args.node =
+    c.as_slice-readers.ensures ∙ shown_readers a.capacity a.rows.items a.readers.items a.outlets.items c.args.node c.index.result.now c.self.invariant within c.index.ensures in
+    let o = c.index_mut.result.now in
+    let message = message_read a.capacity a.rows.items a.outlets.items c.args.self.now c.args.node o c.self.view_is has c.index_mut.ensures.value in
+    put_edges a.capacity a.rows a.readers.items a.outlets.items c.args.self.now c.args.node o.message o.room c.send.new.rows c.deref_mut.result.now
+    c.as_slice-readers.result.now c.send.new.outlet c.deref_mut.ensures.value shown c.send.ensures.sent c.send.ensures.none
+    (put_from a.capacity a.rows.items a.readers.items a.outlets.items c.args.self.now c.args.node o.message o.room c.self.view_is c.self.invariant has message)
