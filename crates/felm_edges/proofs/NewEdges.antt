@@ -1,13 +1,14 @@
 -- The parts of new edges.
-use Rattle.std.proofs.Common.{◌≡◌, ℕ, zero, suc, ◌<◌, ◌≤◌, List, [], ◌∷◌, length, map, get_or, Option, Some, None, refl, sym, ap, ◌∙◌, subst, arith}
+use Rattle.std.proofs.Common.{◌≡◌, ℕ, zero, suc, ◌<◌, ◌≤◌, List, [], ◌∷◌, ◌++◌, ◌+◌, take, length, map, get_or, Option, Some, None, refl, sym, ap, ◌∙◌, subst, arith}
 use Rattle.std.specs.List.{slice_get}
 use Rattle.std.proofs.lemmas.Bool.{false≢true}
-use Rattle.std.proofs.lemmas.List.{length-map}
+use Rattle.std.proofs.lemmas.List.{length-map, map_more}
 use Rattle.std.proofs.lemmas.Option.{none-some}
 use Rattle.felm_term.specs.declared.message.Message.{Message}
 use Rattle.felm_graph.specs.declared.node.Node.{Node}
 use Rattle.felm_graph.specs.GraphValue.{GraphValue}
 use Rattle.felm_graph.specs.Graphs.{IsGraph}
+use Rattle.felm_graph.specs.Nodes.{arguments_of}
 use Rattle.felm_edges.specs.EdgesValue.{wiring_of, IsWired, edge_in, prepared_in}
 use Rattle.felm_edges.specs.Changes.{AreNew}
 use Rattle.felm_edges.specs.Parts.{EdgeValue, OutletValue, new_edge, new_outlet, row_of, edge_of, sources_of, prepared_of}
@@ -16,7 +17,7 @@ use Rattle.felm_edges.specs.Inside.{edges_from, IsWithin, IsStocked, GoTogether}
 use Rattle.felm_edges.specs.declared.readers.Reader.{Reader}
 use Rattle.felm_edges.proofs.Rows.{get_or_mapped, messages_at, node_there}
 use Rattle.felm_edges.proofs.Reading.{wired_there, prepared_at}
-use Rattle.felm_edges.proofs.Wiring.{length-wiring_of, wired_below}
+use Rattle.felm_edges.proofs.Wiring.{length-wiring_of, wired_row, wired_below}
 
 abbrev pub new_rows : ℕ → List (List ℕ) → List (List EdgeValue)
 new_rows capacity wiring = map (map (new_edge capacity)) wiring
@@ -33,6 +34,17 @@ sources_of-new_rows capacity [] = refl
 sources_of-new_rows capacity (row ∷ more) =
     ap (λ (xs : List ℕ). xs ∷ sources_of (new_rows capacity more)) (sources_of_row capacity row) ∙
     ap (λ (rows : List (List ℕ)). row ∷ rows) (sources_of-new_rows capacity more)
+
+-- the rows, one node further
+pub next_row : (nodes : List Node) (capacity node : ℕ) (rows : List (List EdgeValue)) (ports : List EdgeValue) → node < length nodes
+    → rows ≡ new_rows capacity (take node (wiring_of nodes)) → ports ≡ map (new_edge capacity) (arguments_of nodes node)
+    → rows ++ ports ∷ [] ≡ new_rows capacity (take (node + 1) (wiring_of nodes))
+next_row nodes capacity node rows ports l r p =
+    let m : node < length (wiring_of nodes) = omega (arith, length-wiring_of nodes) in
+    ap (λ (rs : List (List EdgeValue)). rs ++ ports ∷ []) r ∙
+    ap (λ (row : List EdgeValue). new_rows capacity (take node (wiring_of nodes)) ++ row ∷ [])
+    (p ∙ ap (λ (row : List ℕ). map (new_edge capacity) row) (sym (wired_row nodes node))) ∙
+    sym (map_more (map (new_edge capacity)) (wiring_of nodes) node [] m)
 
 -- there are few rows, and none reads a node behind the last
 pub few_rows : (g : GraphValue) (capacity : ℕ) (rows : List (List EdgeValue)) → IsGraph g → rows ≡ new_rows capacity (wiring_of g.nodes)

@@ -1,10 +1,9 @@
 -- What the writing calls do to the parts of edges.
-use Rattle.std.proofs.Common.{◌≡◌, ◌≢◌, ℕ, ◌+◌, ◌<◌, ◌≤◌, ◌⊎◌, inl, inr, Bool, true, false, List, [], ◌∷◌, ◌++◌, length, map, drop, set, get_or, Option, Some, None, Result, Ok, Err, refl, sym, ap, ◌∙◌, subst, arith, IsSome, OnOk, OnErr, length-append, length-drop}
+use Rattle.std.proofs.Common.{◌≡◌, ◌≢◌, ℕ, ◌+◌, ◌<◌, ◌≤◌, ◌⊎◌, inl, inr, Bool, true, false, List, [], ◌∷◌, ◌++◌, length, map, drop, set, get_or, Option, Some, None, Result, Ok, Err, refl, sym, ap, ◌∙◌, subst, arith, IsSome, OnOk, OnErr, length-append, length-drop, Vec, Global}
 use Rattle.std.specs.List.{slice_get}
 use Rattle.std.proofs.lemmas.Bool.{cases_eq, cases_lt, false≢true}
 use Rattle.std.proofs.lemmas.List.{length-map, length-set, map-set, set-get_or, get_or-set_same, get_or-set_other, get_or_read, get_or_past, with_items_is}
-use Rattle.std.specs.Vec.{Vec, with_items}
-use Rattle.std.specs.declared.alloc.Global.{Global}
+use Rattle.std.specs.Vec.{with_items}
 use Rattle.felm_term.specs.declared.message.Message.{Message}
 use Rattle.felm_edges.specs.EdgesValue.{EdgesValue, IsWired, ReadsIn, edge_in, prepared_in, HasRoomIn}
 use Rattle.felm_edges.specs.Changes.{PreparedFrom, PutFrom, DroppedFrom}
