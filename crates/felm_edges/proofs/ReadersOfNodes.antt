@@ -120,12 +120,11 @@ with_port wiring node port source readers added are wired l a =
     all k y w (inl b) = let s = are.all k y w b in (s.0, still_stands readers source (record { node = node; port = port }) k s.0 y l s.1)
     all k y w (inr e) =
         let v : IsWired wiring node port k = subst (λ (r : Reader). IsWired wiring r.node r.port k) (sym e) w in
-        let q : source ≡ k = some_same (sym wired ∙ v) in
-        (
+        let q : source ≡ k = some_same (sym wired ∙ v) in (
           length (readers_of readers source),
           subst (λ (r : Reader). StandsAt (with_reader readers source (record { node = node; port = port })) k (length (readers_of readers source)) r) e
-          (subst (λ (a : ℕ). StandsAt (with_reader readers source (record { node = node; port = port })) a (length (readers_of readers source)) (record { node = node; port = port })) q
-          (new_stands readers source (record { node = node; port = port }) l)),
+              (subst (λ (a : ℕ). StandsAt (with_reader readers source (record { node = node; port = port })) a (length (readers_of readers source)) (record { node = node; port = port })) q
+              (new_stands readers source (record { node = node; port = port }) l)),
         )
       where
         some_same : {a b : ℕ} → Some a ≡ Some b → a ≡ b

@@ -155,7 +155,7 @@ dropping_keeps capacity rows readers outlets k together l = record {
         subst (λ (e : EdgeValue). IsWithin capacity e) (sym (edge_stays rows k r port (map without_first (row_of rows k)) n)) (together.within r port t)
     within r port there (inl e) =
         let P : ℕ → Type 0 = λ y. port < length (row_of (set rows k (map without_first (row_of rows k))) y)
-            → IsWithin capacity (edge_of (set rows k (map without_first (row_of rows k))) y port) in
+        → IsWithin capacity (edge_of (set rows k (map without_first (row_of rows k))) y port) in
         subst P (sym e) here there
       where
         here : port < length (row_of (set rows k (map without_first (row_of rows k))) k)

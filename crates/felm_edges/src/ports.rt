@@ -8,7 +8,7 @@ use std::alloc::Global;
 use std::marker::Model;
 
 /// The edges into one node, up to nine in the order of its ports. Contracts see the list.
-#[derive(Drop)]
+#[derive(Debug, Drop)]
 pub struct Ports {
     edges: Vec<Edge>,
 }

@@ -24,8 +24,7 @@ returns-clause-room c =
     let shown : c.as_slice.result.now ≡ readers_of a.readers.items c.args.node =
     c.as_slice.ensures ∙ shown_readers a.capacity a.rows.items a.readers.items a.outlets.items c.args.node c.index.result.now c.self.invariant within c.index.ensures in
     let P : List (List EdgeValue) → List Reader → Type 0 = λ rows xs. All (HasPlaceAt rows) xs in
-    let room = room_is a.capacity a.rows.items a.readers.items a.outlets.items c.args.node c.self.invariant in
-    (
+    let room = room_is a.capacity a.rows.items a.readers.items a.outlets.items c.args.node c.self.invariant in (
       λ t. subst (λ (n : EdgesValue). HasRoomIn n c.args.node) c.self.view_is
           (room.0 (subst (λ (rows : List (List EdgeValue)). P rows (readers_of a.readers.items c.args.node)) c.deref.ensures.value
           (subst (λ (xs : List Reader). P c.deref.result.now xs) shown (c.have_places.ensures.0 t)))),
