@@ -5,3 +5,5 @@ pub mod Edged
 pub mod Moving
 pub mod Counting
 pub mod Beginning
+pub mod Standing
+pub mod Stopping
