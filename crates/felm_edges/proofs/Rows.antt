@@ -58,8 +58,8 @@ edge_changed_other f rows x k port there n = go (cases_eq k x.node)
     go (inl e) =
         let P : ℕ → Type 0 = λ m. edge_of (changed_at f rows x) m port ≡ edge_of rows m port in
         subst P (sym e) (
-          ap (λ (row : List EdgeValue). get_or row port no_edge) (row_changed_same f rows x there) ∙
-          get_or-set_other (row_of rows x.node) x.port port (f (edge_of rows x.node x.port)) no_edge (n e)
+        ap (λ (row : List EdgeValue). get_or row port no_edge) (row_changed_same f rows x there) ∙
+        get_or-set_other (row_of rows x.node) x.port port (f (edge_of rows x.node x.port)) no_edge (n e)
         )
 
 pub length_changed : (f : EdgeValue → EdgeValue) (rows : List (List EdgeValue)) (x : Reader) (k : ℕ) → IsThere rows x
@@ -81,12 +81,12 @@ sources_changed f rows x keeps =
     let row = row_of rows x.node in
     let inner : map source (set row x.port (f edge)) ≡ map source row =
     map-set source row x.port (f edge) ∙ (
-      ap (λ (s : ℕ). set (map source row) x.port s) (keeps edge ∙ sym (get_or_mapped source row x.port no_edge)) ∙
-      set-get_or (map source row) x.port 0
+    ap (λ (s : ℕ). set (map source row) x.port s) (keeps edge ∙ sym (get_or_mapped source row x.port no_edge)) ∙
+    set-get_or (map source row) x.port 0
     ) in
     map-set (map source) rows x.node (set row x.port (f edge)) ∙ (
-      ap (λ (r : List ℕ). set (map (map source) rows) x.node r) (inner ∙ sym (get_or_mapped (map source) rows x.node [])) ∙
-      set-get_or (map (map source) rows) x.node []
+    ap (λ (r : List ℕ). set (map (map source) rows) x.node r) (inner ∙ sym (get_or_mapped (map source) rows x.node [])) ∙
+    set-get_or (map (map source) rows) x.node []
     )
 
 -- ---- changes at each of some ports
@@ -106,6 +106,10 @@ there_after f rows x xs there i y e =
     let h : y.port < length (row_of rows y.node) = there (suc i) y e in
     let s : length (row_of (changed_at f rows x) y.node) ≡ length (row_of rows y.node) = length_changed f rows x y.node (there 0 x refl) in
     omega arith
+
+pub each_rows : (f : EdgeValue → EdgeValue) (rows : List (List EdgeValue)) (xs : List Reader) → length (changed_at_each f rows xs) ≡ length rows
+each_rows f rows [] = refl
+each_rows f rows (x ∷ xs) = each_rows f (changed_at f rows x) xs ∙ length-set rows x.node _
 
 pub each_length : (f : EdgeValue → EdgeValue) (rows : List (List EdgeValue)) (xs : List Reader) (k : ℕ) → AllThere rows xs
     → length (row_of (changed_at_each f rows xs) k) ≡ length (row_of rows k)

@@ -1,18 +1,18 @@
 -- The edges that the fields stand for, and what holds of the fields.
-use Rattle.std.specs.Prelude.{◌≡◌, ℕ, ◌<◌, ◌≤◌, IsSome, length, map, List, slice_index_or}
+use Rattle.std.specs.Prelude.{◌≡◌, ℕ, ◌<◌, ◌≤◌, IsSome, length, List, slice_index_or}
 use Rattle.felm_edges.specs.EdgesValue.{EdgesValue}
 use Rattle.felm_edges.specs.Parts.{EdgeValue, OutletValue, new_outlet, row_of, edge_of, sources_of, messages_of, prepared_of}
 use Rattle.felm_edges.specs.Readers.{AreReaders, readers_of}
+use Rattle.felm_edges.specs.declared.readers.Reader.{Reader}
 use Rattle.felm_edges.specs.declared.edges.Edges.TheInside.{Inside}
 
+-- the edges that these parts are
+abbrev pub edges_from : ℕ → List (List EdgeValue) → List OutletValue → EdgesValue
+edges_from capacity rows outlets =
+    record { wiring = sources_of rows; capacity = capacity; lists = messages_of rows; prepared = prepared_of outlets }
+
 abbrev pub edges_of : Inside → EdgesValue
-edges_of a =
-    record {
-      wiring = sources_of a.rows.items;
-      capacity = a.capacity;
-      lists = messages_of a.rows.items;
-      prepared = prepared_of a.outlets.items;
-    }
+edges_of a = edges_from a.capacity a.rows.items a.outlets.items
 
 -- an edge has this capacity, and holds no more
 pub record IsWithin (capacity : ℕ) (edge : EdgeValue) : Type 0 where
@@ -24,11 +24,14 @@ pub record IsStocked (readers : ℕ) (outlet : OutletValue) : Type 0 where
   pub room : readers ≤ outlet.room
   pub copies : IsSome outlet.message → outlet.left ≡ readers
 
-pub record AreInside (a : Inside) : Type 0 where
-  pub least : 1 ≤ a.capacity
-  pub most : a.capacity ≤ 1024
-  pub within : (k port : ℕ) → port < length (row_of a.rows.items k) → IsWithin a.capacity (edge_of a.rows.items k port)
-  pub readers : AreReaders (sources_of a.rows.items) a.readers.items
-  pub places : length a.outlets.items ≡ length a.rows.items
-  pub stocked : (k : ℕ) → k < length a.outlets.items
-      → IsStocked (length (readers_of a.readers.items k)) (slice_index_or a.outlets.items k (new_outlet 0))
+-- the parts go together
+pub record GoTogether (capacity : ℕ) (rows : List (List EdgeValue)) (readers : List (List Reader)) (outlets : List OutletValue) : Type 0 where
+  pub least : 1 ≤ capacity
+  pub most : capacity ≤ 1024
+  pub within : (k port : ℕ) → port < length (row_of rows k) → IsWithin capacity (edge_of rows k port)
+  pub readers_are : AreReaders (sources_of rows) readers
+  pub places : length outlets ≡ length rows
+  pub stocked : (k : ℕ) → k < length outlets → IsStocked (length (readers_of readers k)) (slice_index_or outlets k (new_outlet 0))
+
+abbrev pub AreInside : Inside → Type 0
+AreInside a = GoTogether a.capacity a.rows.items a.readers.items a.outlets.items

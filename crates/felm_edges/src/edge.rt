@@ -8,7 +8,7 @@ use std::marker::Model;
 
 /// What one node has sent to a port of another, which hasn't taken it yet: a ring that is made
 /// whole, so that no message asks for memory.
-#[derive(Drop)]
+#[derive(Debug, Drop)]
 pub struct Edge {
     source: u32,
     ring: HeapCircularBuffer<Message>,

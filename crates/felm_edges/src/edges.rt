@@ -14,15 +14,12 @@ use felm_term::{Memory, Message};
 use std::alloc::Global;
 use std::marker::Model;
 
-/// The most messages that an edge can be made for.
-pub const MOST_CAPACITY: u32 = 1024;
-
 /// The edges of a graph, which contracts see as an `EdgesValue`: for each port of each node a list
 /// of messages that is no longer than the capacity, and for each node the message that is prepared
 /// for its readers, or none.
 ///
 /// All memory is taken when edges are made. After that only a copy of a function can be refused.
-#[derive(Drop)]
+#[derive(Debug, Drop)]
 pub struct Edges {
     rows: Vec<Ports>,
     readers: Vec<Readers>,

@@ -8,5 +8,7 @@ mod making;
 mod outlet;
 mod ports;
 mod readers;
+#[cfg(test)]
+mod tests;
 
 pub use edges::Edges;

@@ -1,5 +1,6 @@
 //! The parts of new edges.
 ghost use Rattle.std.specs.Prelude.{◌≡◌, ◌+◌, ◌<◌, ◌^◌, ℕ, [], length, map, replicate, IfOk, OnOk};
+ghost use Rattle.felm_graph.specs.Graphs.{IsGraph};
 ghost use Rattle.felm_edges.specs.EdgesValue.{wiring_of, IsWired};
 ghost use Rattle.felm_edges.specs.Parts.{new_edge, new_outlet, sources_of};
 ghost use Rattle.felm_edges.specs.Readers.{AreReaders, AreReadersBefore};
@@ -13,13 +14,14 @@ use std::alloc::Global;
 
 /// The edges into each node, all empty.
 pub fn make_rows(alloc: Global, graph: &Graph, capacity: u32) -> Result<Vec<Ports>, Memory>
-    ensures { IfOk result (λ rows. rows.items ≡ map (map (new_edge capacity)) (wiring_of graph.now.nodes)) }
+    ensures rows { IfOk result (λ rows. rows.items ≡ map (map (new_edge capacity)) (wiring_of graph.now.nodes)) }
+    ensures graph { IsGraph graph.now }
 {
     let count = graph.nodes().len();
     let mut rows = Vec::with_capacity(alloc, count).map_err(|_| Memory)?;
     for node in 0..count {
         let sources = arguments_of(graph, node as u32);
-        let ports = Ports::make(alloc, sources.as_slice(), capacity)?;
+        let ports = Ports::make(alloc, &sources, capacity)?;
         rows.push(ports).map_err(|_| Memory)?;
     }
     Ok(rows)
@@ -72,8 +74,8 @@ pub fn make_outlets(alloc: Global, readers: &[Readers]) -> Result<Vec<Outlet>, M
     ensures { IfOk result (λ outlets. outlets.items ≡ map (λ readers. new_outlet (length readers)) readers.now) }
 {
     let mut outlets = Vec::with_capacity(alloc, readers.len()).map_err(|_| Memory)?;
-    for readers in readers {
-        let outlet = Outlet::make(alloc, readers.len())?;
+    for own in readers {
+        let outlet = Outlet::make(alloc, own.len())?;
         outlets.push(outlet).map_err(|_| Memory)?;
     }
     Ok(outlets)

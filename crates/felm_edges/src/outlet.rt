@@ -7,7 +7,7 @@ use std::marker::Model;
 
 /// The message that the readers of one node will get next: the node's own, and a copy for each
 /// reader, in a list whose room is made once.
-#[derive(Drop)]
+#[derive(Debug, Drop)]
 pub struct Outlet {
     message: Option<Message>,
     copies: Vec<Message>,

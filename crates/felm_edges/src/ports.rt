@@ -1,13 +1,14 @@
-ghost use Rattle.std.specs.Prelude.{◌≡◌, ◌↔◌, ℕ, ◌<◌, Some, length, map, All, IsTrue, IfOk, option_copied, slice_get, slice_index_or, slice_set};
+ghost use Rattle.std.specs.Prelude.{◌≡◌, ◌↔◌, ℕ, ◌<◌, ◌≤◌, Some, length, map, All, IsTrue, IfOk, option_copied, slice_get, slice_index_or, slice_set};
 ghost use Rattle.felm_edges.specs.Parts.{new_edge, no_edge, with_message, without_first, HasPlace, HasMessage};
 
 use crate::edge::Edge;
+use felm_graph::Arguments;
 use felm_term::{Memory, Message};
 use std::alloc::Global;
 use std::marker::Model;
 
-/// The edges into one node, in the order of its ports. Contracts see the list.
-#[derive(Drop)]
+/// The edges into one node, up to nine in the order of its ports. Contracts see the list.
+#[derive(Debug, Drop)]
 pub struct Ports {
     edges: Vec<Edge>,
 }
@@ -23,16 +24,20 @@ impl Model for Ports {
 
     ghost coded = { Prim.hlevel (codes, coded_term) };
 
+    ghost use Rattle.std.specs.Prelude.{length, ◌≤◌};
+
     ghost view = { λ a. a.edges.items };
+
+    ghost invariant = { λ a. length a.edges.items ≤ 9 };
 }
 
 impl Ports {
     /// An edge from each of these nodes.
-    pub fn make(alloc: Global, sources: &[u32], capacity: u32) -> Result<Ports, Memory>
+    pub fn make(alloc: Global, sources: &Arguments, capacity: u32) -> Result<Ports, Memory>
         ensures { IfOk result (λ ports. ports ≡ map (new_edge capacity) sources.now) }
     {
         let mut edges = Vec::with_capacity(alloc, sources.len()).map_err(|_| Memory)?;
-        for source in sources {
+        for source in sources.as_slice() {
             let edge = Edge::make(alloc, *source, capacity)?;
             edges.push(edge).map_err(|_| Memory)?;
         }
@@ -41,7 +46,8 @@ impl Ports {
 
     /// All edges in order.
     pub fn as_slice(&self) -> &[Edge]
-        ensures { result.now ≡ self.now }
+        ensures edges { result.now ≡ self.now }
+        ensures few { length result.now ≤ 9 }
     {
         self.edges.as_slice()
     }

@@ -14,7 +14,7 @@ pub struct Reader {
 }
 
 /// The ports that read one node. Contracts see the list.
-#[derive(Drop)]
+#[derive(Debug, Drop)]
 pub struct Readers {
     readers: Vec<Reader>,
 }

@@ -84,23 +84,22 @@ turns-most nodes done events (suc n) h = go (is_source nodes n) (turns-most node
 turns-whole : (nodes : List Node) (done : List ℕ) (events n : ℕ) → ((x : ℕ) → x < n → done_at done x ≤ events)
     → turns_of nodes done n ≡ events * turning nodes n → (k : ℕ) → k < n → is_source nodes k ≡ false → done_at done k ≡ events
 unfolding turns_of turning
-turns-whole nodes done events zero h e k l s = absurd (omega arith)
-turns-whole nodes done events (suc n) h e k l s = go (is_source nodes n) refl e (cases_eq k n)
+turns-whole nodes done events zero h e k l s = absurd (omega (arith, l))
+turns-whole nodes done events (suc n) h e k l s =
+    go (is_source nodes n) refl e (cases_eq k n) (λ q m. turns-whole nodes done events n (λ x o. h x (omega (arith, o))) q k (omega (arith, l, m)) s)
   where
     most : turns_of nodes done n ≤ events * turning nodes n
-    most = turns-most nodes done events n (λ x m. h x (omega arith))
+    most = turns-most nodes done events n (λ x m. h x (omega (arith, m)))
 
-    before : turns_of nodes done n ≡ events * turning nodes n → (k ≡ n → ⊥) → done_at done k ≡ events
-    before q k≢n = turns-whole nodes done events n (λ x m. h x (omega arith)) q k (omega arith) s
+    last : done_at done n ≤ events
+    last = h n (omega arith)
 
     go : (t : Bool) → is_source nodes n ≡ t → turns_of nodes done n + cond t 0 (done_at done n) ≡ events * (turning nodes n + cond t 0 1)
-        → (k ≡ n) ⊎ (k ≡ n → ⊥) → done_at done k ≡ events
-    go true q e (inl m) = absurd (false≢true (sym s ∙ (ap (is_source nodes) m ∙ q)))
-    go true q e (inr m) = before (omega (arith, e)) m
-    go false q e (inl m) =
-        let d : done_at done n ≤ events = h n (omega arith) in
-        ap (done_at done) m ∙ omega (arith, e, d, most)
-    go false q e (inr m) = let d : done_at done n ≤ events = h n (omega arith) in before (omega (arith, e, d, most)) m
+        → (k ≡ n) ⊎ (k ≡ n → ⊥) → (turns_of nodes done n ≡ events * turning nodes n → (k ≡ n → ⊥) → done_at done k ≡ events) → done_at done k ≡ events
+    go true q e (inl m) ih = absurd (false≢true (sym s ∙ (ap (is_source nodes) m ∙ q)))
+    go true q e (inr m) ih = ih (omega (arith, e)) m
+    go false q e (inl m) ih = ap (done_at done) m ∙ omega (arith, e, last, most)
+    go false q e (inr m) ih = ih (omega (arith, e, last, most)) m
 
 module _ (plan : PlanValue) (c : Position) (graph : IsGraph plan.graph) (sound : IsSound plan c) where
   pub counted_settled : settled_at plan c ≡ length c.journal * turning plan.graph.nodes (length plan.graph.nodes) → IsSettled plan c

@@ -30,30 +30,29 @@ all_of-from f (a ∷ args) (m ∷ ms) n h =
     let here : f a ≡ Some m = sym (h 0 a refl) in
     rw (here, ih) refl
 
-pub all_of-to : {X : Type 0} (f : ℕ → Option X) (args : List ℕ) (ms : List X) → all_of (map f args) ≡ Some ms
-    → (length ms ≡ length args) × ((port a : ℕ) → slice_get args port ≡ Some a → slice_get ms port ≡ f a)
-all_of-to f [] ms h = (ap length (sym (same_Some [] ms h)), λ port a e. absurd (none-some a e))
-all_of-to {X = X} f (a ∷ args) ms h = go (all_of-to f args) (f a) refl (all_of (map f args)) refl h
-  where
-    tail : (m : X) (rest : List X) → f a ≡ Some m
-        → (length rest ≡ length args) × ((port b : ℕ) → slice_get args port ≡ Some b → slice_get rest port ≡ f b)
-        → (length (m ∷ rest) ≡ length (a ∷ args)) × ((port b : ℕ) → slice_get (a ∷ args) port ≡ Some b → slice_get (m ∷ rest) port ≡ f b)
-    tail m rest e ih = (ap suc ih.0, ports)
-      where
-        ports : (port b : ℕ) → slice_get (a ∷ args) port ≡ Some b → slice_get (m ∷ rest) port ≡ f b
-        ports zero b p = sym e ∙ ap f (same_Some a b p)
-        ports (suc port) b p = ih.1 port b p
+-- each of them is there, at its place
+abbrev pub AreThere : {X : Type 0} (f : ℕ → Option X) → List ℕ → List X → Type 0
+AreThere f args ms = (length ms ≡ length args) × ((port a : ℕ) → slice_get args port ≡ Some a → slice_get ms port ≡ f a)
 
-    go : ((rest : List X) → all_of (map f args) ≡ Some rest
-        → (length rest ≡ length args) × ((port b : ℕ) → slice_get args port ≡ Some b → slice_get rest port ≡ f b))
-        → (o : Option X) → f a ≡ o → (r : Option (List X)) → all_of (map f args) ≡ r
+there_more : {X : Type 0} (f : ℕ → Option X) (a : ℕ) (args : List ℕ) (m : X) (rest : List X) → f a ≡ Some m → AreThere f args rest
+    → AreThere f (a ∷ args) (m ∷ rest)
+there_more {X = X} f a args m rest e ih = (ap suc ih.0, ports)
+  where
+    ports : (port b : ℕ) → slice_get (a ∷ args) port ≡ Some b → slice_get (m ∷ rest) port ≡ f b
+    ports zero b p = sym e ∙ ap f (same_Some a b p)
+    ports (suc port) b p = ih.1 port b p
+
+pub all_of-to : {X : Type 0} (f : ℕ → Option X) (args : List ℕ) (ms : List X) → all_of (map f args) ≡ Some ms → AreThere f args ms
+all_of-to f [] ms h = (ap length (sym (same_Some [] ms h)), λ port a e. absurd (none-some a e))
+all_of-to {X = X} f (a ∷ args) ms h = go (f a) refl (all_of (map f args)) refl h (all_of-to f args)
+  where
+    go : (o : Option X) → f a ≡ o → (r : Option (List X)) → all_of (map f args) ≡ r
         → option_and_then (λ first. option_map (λ rest. first ∷ rest) r) o ≡ Some ms
-        → (length ms ≡ length (a ∷ args)) × ((port b : ℕ) → slice_get (a ∷ args) port ≡ Some b → slice_get ms port ≡ f b)
-    go ih None e r q h = absurd (none-some ms h)
-    go ih (Some m) e None q h = absurd (none-some ms h)
-    go ih (Some m) e (Some rest) q h =
-        subst (λ (xs : List X). (length xs ≡ length (a ∷ args)) × ((port b : ℕ) → slice_get (a ∷ args) port ≡ Some b → slice_get xs port ≡ f b))
-        (same_Some (m ∷ rest) ms h) (tail m rest e (ih rest q))
+        → ((rest : List X) → all_of (map f args) ≡ Some rest → AreThere f args rest) → AreThere f (a ∷ args) ms
+    go None e r q h ih = absurd (none-some ms h)
+    go (Some m) e None q h ih = absurd (none-some ms h)
+    go (Some m) e (Some rest) q h ih =
+        subst (λ (xs : List X). AreThere f (a ∷ args) xs) (same_Some (m ∷ rest) ms h) (there_more f a args m rest e (ih rest q))
 
 -- ---- edges
 
@@ -111,8 +110,7 @@ module _ (plan : PlanValue) (c : Position) (edges : EdgesValue) (parts : Parts) 
   pub in_heads : (k : ℕ) (ms : List Message) → heads_at plan c k ≡ Some ms → AreHeads edges k ms
   in_heads k ms h = record { ports = parts_of.0 ∙ sym (ap length (ports_are k)); first = first }
     where
-      parts_of : (length ms ≡ length (arguments_of plan.graph.nodes k))
-          × ((port a : ℕ) → slice_get (arguments_of plan.graph.nodes k) port ≡ Some a → slice_get ms port ≡ slice_get (edge_at plan c a k) 0)
+      parts_of : AreThere (λ a. slice_get (edge_at plan c a k) 0) (arguments_of plan.graph.nodes k) ms
       parts_of = all_of-to (λ a. slice_get (edge_at plan c a k) 0) (arguments_of plan.graph.nodes k) ms h
 
       first : (port : ℕ) → port < length ms → slice_get ms port ≡ slice_get (edge_in edges k port) 0

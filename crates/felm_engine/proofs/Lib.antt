@@ -4,6 +4,9 @@ pub mod Flags
 pub mod Edged
 pub mod Moving
 pub mod Counting
+pub mod Beginning
+pub mod Standing
+pub mod Stopping
 pub mod EachSource
 pub mod SourceLists
 pub mod Entering

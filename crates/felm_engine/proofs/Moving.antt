@@ -1,8 +1,8 @@
 -- What each move leaves of an engine's fields.
-use Rattle.std.proofs.Common.{◌≡◌, ℕ, suc, ◌+◌, ◌*◌, ◌^◌, ◌<◌, ◌≤◌, ◌⊎◌, inl, inr, Bool, true, false, cond, eqb, Option, Some, None, List, [], ◌∷◌, ◌++◌, length, map, drop, set, get_or, refl, sym, ap, ◌∙◌, subst, arith}
+use Rattle.std.proofs.Common.{◌≡◌, ℕ, suc, zero, ◌+◌, ◌*◌, ◌^◌, ◌<◌, ◌≤◌, ◌⊎◌, inl, inr, Bool, true, false, cond, eqb, Option, Some, None, List, [], ◌∷◌, ◌++◌, length, map, drop, set, get_or, refl, sym, ap, ◌∙◌, subst, arith}
 use Rattle.std.specs.Prelude.{replicate}
 use Rattle.std.specs.List.{slice_get}
-use Rattle.std.specs.Option.{option_to_list}
+use Rattle.std.specs.Option.{option_to_list, is_some}
 use Rattle.std.proofs.lemmas.Bool.{cases_eq, cases_lt, false≢true, eqb-true}
 use Rattle.std.proofs.lemmas.Option.{none-some, same_Some}
 use Rattle.std.proofs.lemmas.List.{length-map, length-set, length-replicate, get_or-map, get_or_past, same_lists, append-nil}
@@ -20,13 +20,14 @@ use Rattle.felm_meaning.specs.Meaning.{changed_in}
 use Rattle.felm_meaning.proofs.Graphs.{ordered}
 use Rattle.felm_core.specs.Positions.{StopValue, Position, done_at, is_out, Reads, IsSound, HasTurn}
 use Rattle.felm_core.specs.Contents.{settled_at}
-use Rattle.felm_core.specs.Moves.{stop_or}
+use Rattle.felm_core.specs.Moves.{stop_or, sent}
 use Rattle.felm_core.specs.Holds.{Edges, Parts, waiting_of, Holds, SentFrom, Spares, KeepsRoom, SpendsFrom}
 use Rattle.felm_core.proofs.Turns.{stopped_sound}
 use Rattle.felm_core.proofs.Sticks.{done_within}
 use Rattle.felm_core.proofs.Wiring.{reader_within}
-use Rattle.felm_edges.specs.EdgesValue.{EdgesValue, ReadsIn, edge_in, prepared_in}
+use Rattle.felm_edges.specs.EdgesValue.{EdgesValue, IsWired, ReadsIn, edge_in, HasRoomIn, IsFedIn}
 use Rattle.felm_edges.specs.Changes.{PreparedFrom, PutFrom, DroppedFrom}
+use Rattle.felm_engine.specs.Inside.{IsMade}
 use Rattle.felm_engine.specs.Lists.{asyncs_over}
 use Rattle.felm_engine.specs.Queued.{QueueValue, no_queue, queue_at, IsIn, SameQueues, PassedOn}
 use Rattle.felm_engine.proofs.OverLists.{asyncs-over, over-asyncs}
@@ -68,7 +69,26 @@ none_out_sound plan c out sound l none = record {
   stops = sound.stops;
 }
 
+abbrev pub sent_to : Position → ℕ → ℕ → Position
+sent_to c k d = record c { done = set c.done k d; out = set c.out k false }
+
+pub sent_is : (c : Position) (k d : ℕ) → d ≡ suc (done_at c.done k) → sent_to c k d ≡ sent c k
+sent_is c k d e = ap (sent_to c k) e
+
 -- ---- contents that stay
+
+-- the lists that are made once stay with the edges' wiring and capacity
+pub made_again : (plan : PlanValue) (wiring wiring' : List (List ℕ)) (capacity capacity' : ℕ) (asyncs : List (List ℕ)) (sources : List ℕ)
+    → wiring' ≡ wiring → capacity' ≡ capacity → IsMade plan wiring capacity asyncs sources → IsMade plan wiring' capacity' asyncs sources
+made_again plan wiring wiring' capacity capacity' asyncs sources w q made = record {
+  graph = made.graph;
+  wiring_is = w ∙ made.wiring_is;
+  capacity_is = q ∙ made.capacity_is;
+  asyncs_are = made.asyncs_are;
+  sources_are = made.sources_are;
+  least = made.least;
+  most = made.most;
+}
 
 -- what is prepared is no part of what edges hold
 pub same_edges : (plan : PlanValue) (c : Position) (old new : EdgesValue) (parts : Parts) → new.lists ≡ old.lists → Holds plan c (edge_in old) parts
@@ -76,7 +96,7 @@ pub same_edges : (plan : PlanValue) (c : Position) (old new : EdgesValue) (parts
 same_edges plan c old new parts e holds =
     subst (λ (ls : List (List (List Message))). Holds plan c (λ k port. get_or (get_or ls k []) port []) parts) (sym e) holds
 
-abbrev items_of : List QueueValue → List (List Value)
+abbrev pub items_of : List QueueValue → List (List Value)
 items_of queues = map (λ (q : QueueValue). q.items) queues
 
 pub items_at : (queues : List QueueValue) (a : ℕ) → get_or (items_of queues) a [] ≡ (queue_at queues a).items
@@ -144,7 +164,37 @@ module _ (plan : PlanValue) (k : ℕ) (m : Message) (e0 e1 e2 e3 : EdgesValue) (
   edge_other r port a h n o =
       dropped.stays r port (λ e. o (sym e)) ∙ (put.stays r port a (wired_then r port a h) (λ e. n (sym e)) ∙ lists_stay r port)
 
--- the asyncs over node k
+-- ---- when a message may be put and heads taken
+
+module _ (k : ℕ) (e0 e1 : EdgesValue) (o : Option Message) (prepared : PreparedFrom e0 k o e1) where
+  edge_then : (r port : ℕ) → edge_in e1 r port ≡ edge_in e0 r port
+  edge_then r port = ap (λ (ls : List (List (List Message))). get_or (get_or ls r []) port []) prepared.lists
+
+  pub room_then : HasRoomIn e0 k → HasRoomIn e1 k
+  room_then room r port h =
+      let h' : ReadsIn e0 r port k = subst (λ (w : List (List ℕ)). IsWired w r port k) prepared.wiring h in
+      let l : length (edge_in e0 r port) < e0.capacity = room r port h' in
+      omega (arith, l, ap length (edge_then r port), prepared.capacity)
+
+  -- the heads of the node's own edges are still there after its message was put, as it doesn't read itself
+  pub fed_then : (e2 : EdgesValue) → PutFrom e1 k e2 → ((port a : ℕ) → ReadsIn e0 k port a → a ≡ k → ⊥) → IsFedIn e0 k → IsFedIn e2 k
+  fed_then e2 put apart fed port a h =
+      let h1 : ReadsIn e1 k port a = subst (λ (w : List (List ℕ)). IsWired w k port a) put.wiring h in
+      let h0 : ReadsIn e0 k port a = subst (λ (w : List (List ℕ)). IsWired w k port a) prepared.wiring h1 in
+      let l : 0 < length (edge_in e0 k port) = fed port a h0 in
+      let q : edge_in e2 k port ≡ edge_in e0 k port = put.stays k port a h1 (apart port a h0) ∙ edge_then k port in
+      omega (arith, l, ap length q)
+
+-- a message is shown where its node is the shown one
+pub shows : (main k : ℕ) (m : Message) (shown : Option Message) → shown ≡ cond (eqb main k) (Some m) None → is_some shown ≡ true → main ≡ k
+shows main k m shown e h = go (eqb main k) refl
+  where
+    go : (b : Bool) → eqb main k ≡ b → main ≡ k
+    go true q = eqb-true main k q
+    go false q = absurd (false≢true (sym (ap is_some (e ∙ ap (λ (b : Bool). cond b (Some m) None) q)) ∙ h))
+
+-- ---- the asyncs over node k
+
 module _ (plan : PlanValue) (k : ℕ) (m : Message) (old new : List QueueValue) (nodes : List ℕ) (lengths : length old ≡ length plan.graph.nodes)
     (asyncs : nodes ≡ asyncs_over plan.graph.nodes k (length plan.graph.nodes)) (passed : PassedOn nodes m old new) where
   within : (a : ℕ) → inner plan.graph.nodes a ≡ Some k → a < length plan.graph.nodes
@@ -155,7 +205,7 @@ module _ (plan : PlanValue) (k : ℕ) (m : Message) (old new : List QueueValue) 
     where
       past : (ns : List Node) (i : ℕ) → length ns ≤ i → inner ns i ≡ Some k → ⊥
       past [] i l h = none-some k h
-      past (n ∷ ns) 0 l h = omega arith
+      past (n ∷ ns) zero l h = absurd (omega (arith, l))
       past (n ∷ ns) (suc i) l h = past ns i (omega arith) h
 
   is_in : (a : ℕ) → inner plan.graph.nodes a ≡ Some k → IsIn nodes a

@@ -1,12 +1,13 @@
 -- What each call does to the queues of all nodes.
-use Rattle.std.proofs.Common.{◌≡◌, ℕ, suc, ◌+◌, ◌<◌, ◌≤◌, ◌⊎◌, inl, inr, Option, Some, List, [], ◌++◌, ◌∷◌, length, drop, set, get_or, refl, sym, ap, ◌∙◌, subst, arith}
+use Rattle.std.proofs.Common.{◌≡◌, ℕ, suc, ◌+◌, ◌-◌, ◌<◌, ◌≤◌, ◌⊎◌, inl, inr, Option, Some, List, [], ◌++◌, ◌∷◌, length, drop, set, get_or, refl, sym, ap, ◌∙◌, subst, arith}
 use Rattle.std.specs.List.{slice_get}
 use Rattle.std.specs.Option.{IfSome}
 use Rattle.std.proofs.lemmas.Bool.{cases_eq}
 use Rattle.std.proofs.lemmas.Option.{same_Some, slice_get_within, slice_get_read, get_or_from_slice_get}
 use Rattle.std.proofs.lemmas.List.{length-set, get_or-set_same, get_or-set_other}
 use Rattle.felm_term.specs.declared.value.Value.{Value}
-use Rattle.felm_engine.specs.Queued.{QueueValue, no_queue, queue_at, put_value, AreDistinct, IsIn, SameQueues, ArePrepared, PutInto, TakenFrom, ReservedIn}
+use Rattle.felm_term.specs.declared.message.Message.TheVariants.{Change}
+use Rattle.felm_engine.specs.Queued.{QueueValue, no_queue, queue_at, put_value, AreDistinct, IsIn, SameQueues, ArePrepared, PutInto, PassedOn, TakenFrom, ReservedIn}
 
 -- a queue that was read
 pub read_queue : (queues : List QueueValue) (k : ℕ) (q : QueueValue) → k < length queues → q ≡ get_or queues k q → queue_at queues k ≡ q
@@ -126,3 +127,19 @@ module _ (nodes : List ℕ) (distinct : AreDistinct nodes) (n b : ℕ) (here : s
       other : (a : ℕ) → ((i : ℕ) → i < n + 1 → slice_get nodes i ≡ Some a → ⊥) → (a ≡ b) ⊎ (a ≡ b → ⊥) → queue_at (set new b q) a ≡ queue_at old a
       other a h (inl e) = absurd (h n (omega arith) (here ∙ ap (λ (x : ℕ). Some x) (sym e)))
       other a h (inr k) = at_other new b a q k ∙ so_far.stays a (λ i m. h i (omega arith))
+
+-- a change that was prepared and put is passed on
+pub passed_on : (nodes : List ℕ) (v : Value) (old mid new : List QueueValue) → SameQueues old mid → ArePrepared nodes v mid → PutInto nodes mid new
+    → PassedOn nodes (Change v) old new
+passed_on nodes v old mid new same prepared put = record {
+  lengths = put.lengths ∙ same.lengths;
+  items = λ a within. ap (λ (q : QueueValue). q.items) (here a within) ∙ ap (λ (vs : List Value). vs ++ v ∷ []) (same.items a);
+  spare = λ a within.
+      let e : (queue_at new a).spare ≡ (queue_at mid a).spare - 1 = ap (λ (q : QueueValue). q.spare) (here a within) in
+      omega (arith, e, same.spare a);
+  other_items = λ a n. ap (λ (q : QueueValue). q.items) (put.stays a n) ∙ same.items a;
+  other_spare = λ a n. ap (λ (q : QueueValue). q.spare) (put.stays a n) ∙ same.spare a;
+}
+  where
+    here : (a : ℕ) → IsIn nodes a → queue_at new a ≡ put_value (queue_at mid a) v
+    here a (i, h) = put.put a v (i, h) (prepared i a h)

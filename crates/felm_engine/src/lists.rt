@@ -1,6 +1,7 @@
 //! Lists of nodes that are made once from a graph.
-ghost use Rattle.std.specs.Prelude.{◌≡◌, ◌<◌, [], length, map, slice_index_or, IfOk};
-ghost use Rattle.felm_engine.specs.Lists.{AreAsyncs, sources_of};
+ghost use Rattle.std.specs.Prelude.{◌≡◌, ◌<◌, ℕ, [], Some, length, slice_index_or, IfOk, OnOk};
+ghost use Rattle.felm_meaning.specs.Nodes.{inner_of_kind};
+ghost use Rattle.felm_engine.specs.Lists.{AreAsyncs, sources_of, items_in, with_async};
 
 use felm_graph::{Graph, NodeKind, is_source};
 use felm_term::{Items, Memory};
@@ -14,12 +15,12 @@ pub struct Asyncs {
 }
 
 impl Model for Asyncs {
-    ghost use Rattle.std.specs.Prelude.{List, ℕ, map};
-    ghost use Rattle.felm_term.specs.Spared.{Spared};
+    ghost use Rattle.std.specs.Prelude.{List, ℕ};
+    ghost use Rattle.felm_engine.specs.Lists.{items_in};
 
     ghost Value = { List (List ℕ) };
 
-    ghost view = { λ a. map (λ (list : Spared ℕ). list.items) a.lists.items };
+    ghost view = { λ a. items_in a.lists.items };
 }
 
 impl Asyncs {
@@ -33,9 +34,7 @@ impl Asyncs {
             lists.push(Items::make(alloc)).map_err(|_| Memory)?;
         }
         for node in 0..nodes.len() {
-            if let NodeKind::Async { argument } = &nodes[node].kind {
-                lists[*argument as usize].push(node as u32)?;
-            }
+            add_async(&nodes[node].kind, node as u32, &mut lists)?;
         }
         Ok(Asyncs { lists })
     }
@@ -47,6 +46,17 @@ impl Asyncs {
     {
         self.lists[node as usize].as_slice()
     }
+}
+
+// Puts a node at the end of the list of its inner signal, if it is an async.
+fn add_async(kind: &NodeKind, node: u32, lists: &mut [Items<u32>]) -> Result<(), Memory>
+    requires { (x : ℕ) → inner_of_kind kind.now ≡ Some x → x < length lists.old }
+    ensures { OnOk result (items_in lists.new ≡ with_async (inner_of_kind kind.now) node (items_in lists.old)) }
+{
+    if let NodeKind::Async { argument } = kind {
+        lists[*argument as usize].push(node)?;
+    }
+    Ok(())
 }
 
 /// The inputs and asyncs of a graph, in order.
