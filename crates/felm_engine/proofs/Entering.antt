@@ -118,7 +118,7 @@ module _ (s : PlanValue) (c : Position) (e : Event) (sources over : List ℕ) (s
     (over_are : over ≡ asyncs_over s.graph.nodes e.source (length s.graph.nodes))
     (wiring : old.edges.wiring ≡ wiring_of s.graph.nodes) (holds : Holds s c (edge_in old.edges) (parts_in old settled))
     (shown_is : (v : Value) → slice_get old.kept s.graph.main ≡ Some v → shown ≡ shown_by s.graph e v)
-    (first : IsReadyFor s c e sources over old ready) (then_ : EntersFrom e sources over shown ready new) where
+    (ready_is : IsReadyFor s c e sources over old ready) (enters : EntersFrom e sources over shown ready new) where
   value_there : (k : ℕ) → k < length s.graph.nodes → slice_get old.kept k ≡ Some (get_or old.kept k value.Unit)
   value_there k l = slice_get-get_or old.kept k value.Unit (omega (arith, holds.kept_length))
 
@@ -126,27 +126,27 @@ module _ (s : PlanValue) (c : Position) (e : Event) (sources over : List ℕ) (s
 
   ready_reads : (k r port : ℕ) → Reads s.graph.nodes r port k → ReadsIn ready.edges r port k
   ready_reads k r port h =
-      subst (λ (w : List (List ℕ)). IsWired w r port k) (sym (first.edges.wiring ∙ wiring)) (reads_wired s.graph.nodes r port k h)
+      subst (λ (w : List (List ℕ)). IsWired w r port k) (sym (ready_is.edges.wiring ∙ wiring)) (reads_wired s.graph.nodes r port k h)
 
   ready_edge : (r port : ℕ) → edge_in ready.edges r port ≡ edge_in old.edges r port
-  ready_edge r port = ap (λ (rows : List (List (List Message))). get_or (get_or rows r []) port []) first.edges.lists
+  ready_edge r port = ap (λ (rows : List (List (List Message))). get_or (get_or rows r []) port []) ready_is.edges.lists
 
   entered_put : (k r port : ℕ) → Reads s.graph.nodes r port k → is_source s.graph.nodes k ≡ true
       → edge_in new.edges r port ≡ edge_in old.edges r port ++ message_in e old.kept k ∷ []
   entered_put k r port h w =
       let there : IsIn sources k = source_there s.graph.nodes sources sources_are k w in
-      then_.edges.put k r port (message_in e old.kept k) there (ready_reads k r port h)
-      (first.due k (get_or old.kept k value.Unit) there (value_there k (source_within s.graph.nodes k w))) ∙
+      enters.edges.put k r port (message_in e old.kept k) there (ready_reads k r port h)
+      (ready_is.due k (get_or old.kept k value.Unit) there (value_there k (source_within s.graph.nodes k w))) ∙
       ap (λ (ms : List Message). ms ++ message_in e old.kept k ∷ []) (ready_edge r port)
 
   entered_other : (k r port : ℕ) → Reads s.graph.nodes r port k → is_source s.graph.nodes k ≡ false → edge_in new.edges r port ≡ edge_in old.edges r port
   entered_other k r port h w =
-      then_.edges.stays k r port (no_source s.graph.nodes sources sources_are k w) (ready_reads k r port h) ∙ ready_edge r port
+      enters.edges.stays k r port (no_source s.graph.nodes sources sources_are k w) (ready_reads k r port h) ∙ ready_edge r port
 
   -- ---- kept values
 
   kept_is : new.kept ≡ set old.kept e.source e.value
-  kept_is = then_.kept ∙ ap (λ (vs : List Value). set vs e.source e.value) first.kept
+  kept_is = enters.kept ∙ ap (λ (vs : List Value). set vs e.source e.value) ready_is.kept
 
   message_own : value_of (message_in e old.kept e.source) ≡ e.value
   message_own = ap (λ (t : Bool). value_of (cond t (Change e.value) (NoChange (get_or old.kept e.source value.Unit)))) (eq-eqb e.source e.source refl)
@@ -179,25 +179,25 @@ module _ (s : PlanValue) (c : Position) (e : Event) (sources over : List ℕ) (s
 
   entered_own : (queue_at new.queues e.source).items ≡ drop 1 (queue_at old.queues e.source).items
   entered_own =
-      ap (λ (q : QueueValue). q.items) (then_.put.stays e.source (not_over s graph e.source over over_are)) ∙
-      (then_.taken.items ∙ ap (drop 1) (first.grown.items e.source))
+      ap (λ (q : QueueValue). q.items) (enters.put.stays e.source (not_over s graph e.source over over_are)) ∙
+      (enters.taken.items ∙ ap (drop 1) (ready_is.grown.items e.source))
 
-  between_at : (a : ℕ) → (e.source ≡ a → ⊥) → queue_at then_.between a ≡ queue_at ready.queues a
-  between_at a n = then_.taken.stays a (λ q. n (sym q))
+  between_at : (a : ℕ) → (e.source ≡ a → ⊥) → queue_at enters.between a ≡ queue_at ready.queues a
+  between_at a n = enters.taken.stays a (λ q. n (sym q))
 
   entered_over : (a : ℕ) → inner s.graph.nodes a ≡ Some e.source → (queue_at new.queues a).items ≡ (queue_at old.queues a).items ++ e.value ∷ []
   entered_over a h =
       let there : IsIn over a = over_there s graph e.source over over_are a h in
       let n : e.source ≡ a → ⊥ = λ q. let l : e.source < a = (ordered s.graph graph).inner_down a e.source h in omega arith in
-      let p : (queue_at then_.between a).prepared ≡ Some e.value =
-      ap (λ (q : QueueValue). q.prepared) (between_at a n) ∙ first.prepared there.0 a there.1 in
-      ap (λ (q : QueueValue). q.items) (then_.put.put a e.value there p) ∙
-      ap (λ (vs : List Value). vs ++ e.value ∷ []) (ap (λ (q : QueueValue). q.items) (between_at a n) ∙ first.grown.items a)
+      let p : (queue_at enters.between a).prepared ≡ Some e.value =
+      ap (λ (q : QueueValue). q.prepared) (between_at a n) ∙ ready_is.prepared there.0 a there.1 in
+      ap (λ (q : QueueValue). q.items) (enters.put.put a e.value there p) ∙
+      ap (λ (vs : List Value). vs ++ e.value ∷ []) (ap (λ (q : QueueValue). q.items) (between_at a n) ∙ ready_is.grown.items a)
 
   entered_waits-other : (a : ℕ) → (e.source ≡ a → ⊥) → (inner s.graph.nodes a ≡ Some e.source → ⊥)
       → (queue_at new.queues a).items ≡ (queue_at old.queues a).items
   entered_waits-other a n o =
-      ap (λ (q : QueueValue). q.items) (then_.put.stays a (λ w. o (there_over s graph e.source over over_are a w)) ∙ between_at a n) ∙ first.grown.items a
+      ap (λ (q : QueueValue). q.items) (enters.put.stays a (λ w. o (there_over s graph e.source over over_are a w)) ∙ between_at a n) ∙ ready_is.grown.items a
 
   -- ---- outputs
 
@@ -207,8 +207,8 @@ module _ (s : PlanValue) (c : Position) (e : Event) (sources over : List ℕ) (s
   entered_outputs : new.outputs.items
       ≡ cond (is_source s.graph.nodes s.graph.main) (old.outputs.items ++ message_in e old.kept s.graph.main ∷ []) old.outputs.items
   entered_outputs =
-      then_.outputs ∙
-      (ap (λ (ms : List Message). ms ++ option_to_list shown) first.outputs ∙
+      enters.outputs ∙
+      (ap (λ (ms : List Message). ms ++ option_to_list shown) ready_is.outputs ∙
       (ap (λ (o : Option Message). old.outputs.items ++ option_to_list o) shown_at ∙ go (is_source s.graph.nodes s.graph.main)))
     where
       go : (t : Bool) → old.outputs.items ++ option_to_list (cond t (Some (message_in e old.kept s.graph.main)) None)
@@ -225,8 +225,14 @@ module _ (s : PlanValue) (c : Position) (e : Event) (sources over : List ℕ) (s
     kept_length = ap length kept_is ∙ length-set old.kept e.source e.value;
     kept = entered_kept;
     kept_other = entered_kept-other;
-    waiting_length = omega (arith, length-map new.queues (λ (q : QueueValue). q.items), length-map old.queues (λ (q : QueueValue). q.items),
-      then_.put.lengths, then_.taken.lengths, first.grown.lengths);
+    waiting_length = omega (
+      arith,
+      length-map new.queues (λ (q : QueueValue). q.items),
+      length-map old.queues (λ (q : QueueValue). q.items),
+      enters.put.lengths,
+      enters.taken.lengths,
+      ready_is.grown.lengths,
+    );
     waits_own = waiting_in new settled e.source ∙ (entered_own ∙ sym (ap (drop 1) (waiting_in old settled e.source)));
     waits_over = λ a h. waiting_in new settled a ∙ (entered_over a h ∙ sym (ap (λ (vs : List Value). vs ++ e.value ∷ []) (waiting_in old settled a)));
     waits_other = λ a n o. waiting_in new settled a ∙ (entered_waits-other a n o ∙ sym (waiting_in old settled a));
@@ -241,7 +247,7 @@ module _ (s : PlanValue) (c : Position) (e : Event) (sources over : List ℕ) (s
   entered_holds =
       event_holds s c e (message_in e old.kept) (edge_in old.edges) (edge_in new.edges) (parts_in old settled) (parts_in new settled) comes
       (λ k w. source_sends_is s c e k (get_or old.kept k value.Unit)
-        (sym (holds.kept_are k (source_within s.graph.nodes k w)) ∙ value_there k (source_within s.graph.nodes k w)))
+      (sym (holds.kept_are k (source_within s.graph.nodes k w)) ∙ value_there k (source_within s.graph.nodes k w)))
       holds event_from
 
   -- ---- room
@@ -249,23 +255,23 @@ module _ (s : PlanValue) (c : Position) (e : Event) (sources over : List ℕ) (s
   spare_for : (a x : ℕ) → inner s.graph.nodes a ≡ Some x → is_source s.graph.nodes x ≡ false → owed_at c x < (queue_at new.queues a).spare
   spare_for a x h w =
       let there : IsIn sources a = source_there s.graph.nodes sources sources_are a (async_is_source s.graph.nodes a x h).0 in
-      let l : length c.journal - done_at c.done x < (queue_at ready.queues a).spare = first.roomy a x there h in
+      let l : length c.journal - done_at c.done x < (queue_at ready.queues a).spare = ready_is.roomy a x there h in
       let o : IsIn over a → ⊥ = λ q.
       let e' : e.source ≡ x = same_Some e.source x (sym (there_over s graph e.source over over_are a q) ∙ h) in
       false≢true (sym w ∙ (ap (is_source s.graph.nodes) (sym e') ∙ source)) in
-      omega (arith, ap (λ (q : QueueValue). q.spare) (then_.put.stays a o), taken_spare a (cases_eq e.source a))
+      omega (arith, ap (λ (q : QueueValue). q.spare) (enters.put.stays a o), taken_spare a (cases_eq e.source a))
     where
-      taken_spare : (a : ℕ) → (e.source ≡ a) ⊎ (e.source ≡ a → ⊥) → (queue_at ready.queues a).spare ≤ (queue_at then_.between a).spare
-      taken_spare a (inl q) = subst (λ (y : ℕ). (queue_at ready.queues y).spare ≤ (queue_at then_.between y).spare) q then_.taken.spare
+      taken_spare : (a : ℕ) → (e.source ≡ a) ⊎ (e.source ≡ a → ⊥) → (queue_at ready.queues a).spare ≤ (queue_at enters.between a).spare
+      taken_spare a (inl q) = subst (λ (y : ℕ). (queue_at ready.queues y).spare ≤ (queue_at enters.between y).spare) q enters.taken.spare
       taken_spare a (inr n) = omega (arith, ap (λ (q : QueueValue). q.spare) (between_at a n))
 
   room_for_next : KeepsRoomForNext s c (spares_in new)
   room_for_next = record {
     waiting = spare_for;
     outputs = λ w.
-      let n : shown ≡ None = shown_at ∙ ap (λ (t : Bool). cond t (Some (message_in e old.kept s.graph.main)) None) w in
-      let z : length (option_to_list shown) ≡ 0 = ap (λ (o : Option Message). length (option_to_list o)) n in
-      omega (arith, then_.spare, first.owed);
+        let n : shown ≡ None = shown_at ∙ ap (λ (t : Bool). cond t (Some (message_in e old.kept s.graph.main)) None) w in
+        let z : length (option_to_list shown) ≡ 0 = ap (λ (o : Option Message). length (option_to_list o)) n in
+        omega (arith, enters.spare, ready_is.owed);
   }
 
   pub entered_room : KeepsRoom s (with_next s c e) (spares_in new)
@@ -277,9 +283,9 @@ pub entered_counts : (s : PlanValue) (c : Position) (sources done : List ℕ) �
     → CountedAs sources (length c.journal + 1) c.done done → done ≡ counted s.graph.nodes 0 c.done
 entered_counts s c sources done sound are h =
     same_lists done (counted s.graph.nodes 0 c.done) (h.lengths ∙ sym (length-counted s.graph.nodes 0 c.done)) (λ k d l.
-      get_or_default done k d 0 l ∙
-      (at k (omega (arith, h.lengths)) (is_source s.graph.nodes k) refl ∙
-      sym (get_or_default (counted s.graph.nodes 0 c.done) k d 0 (omega (arith, h.lengths, length-counted s.graph.nodes 0 c.done)))))
+    get_or_default done k d 0 l ∙
+    (at k (omega (arith, h.lengths)) (is_source s.graph.nodes k) refl ∙
+    sym (get_or_default (counted s.graph.nodes 0 c.done) k d 0 (omega (arith, h.lengths, length-counted s.graph.nodes 0 c.done)))))
   where
     at : (k : ℕ) → k < length c.done → (t : Bool) → is_source s.graph.nodes k ≡ t → done_at done k ≡ done_at (counted s.graph.nodes 0 c.done) k
     at k l true w =
@@ -325,15 +331,15 @@ pub has_entered : (s : PlanValue) (c : Position) (e : Event) (sources over : Lis
     → IsReadyFor s c e sources over old ready → EntersFrom e sources over shown ready new
     → journal ≡ c.journal ++ e ∷ [] → CountedAs sources (length c.journal + 1) c.done done
     → HasEntered s c e (record c { journal = journal; done = done }) new settled
-has_entered s c e sources over shown old ready new settled journal done graph sound typed may sources_are over_are wiring holds shown_is first then_ j counts =
+has_entered s c e sources over shown old ready new settled journal done graph sound typed may sources_are over_are wiring holds shown_is ready_is enters j counts =
     record {
       leads = leads;
       sound = move_sound s graph c (coming_in s.graph.nodes e) (record c { journal = journal; done = done }) sound leads;
       typed = move_fits s c (coming_in s.graph.nodes e) (record c { journal = journal; done = done }) graph sound typed leads;
       holds = subst (λ (d : Position). Holds s d (edge_in new.edges) (parts_in new settled)) (sym at)
-          (entered_holds s c e sources over shown old ready new settled graph sound may.source sources_are over_are wiring holds shown_is first then_);
+          (entered_holds s c e sources over shown old ready new settled graph sound may.source sources_are over_are wiring holds shown_is ready_is enters);
       room = subst (λ (d : Position). KeepsRoom s d (spares_in new)) (sym at)
-          (entered_room s c e sources over shown old ready new settled graph sound may.source sources_are over_are wiring holds shown_is first then_);
+          (entered_room s c e sources over shown old ready new settled graph sound may.source sources_are over_are wiring holds shown_is ready_is enters);
     }
   where
     at : record c { journal = journal; done = done } ≡ with_next s c e
@@ -363,7 +369,7 @@ pub due_prepared : (nodes : List Node) (sources : List ℕ) (e : Event) (kept : 
     → All (λ k. IsSome (prepared_in edges k)) sources
 due_prepared nodes sources e kept edges are l due = all_sources nodes sources are (λ k. IsSome (prepared_in edges k)) (λ k h.
     some (prepared_in edges k) _ (due k (get_or kept k value.Unit) (source_there nodes sources are k h)
-      (slice_get-get_or kept k value.Unit (omega (arith, source_within nodes k h)))))
+    (slice_get-get_or kept k value.Unit (omega (arith, source_within nodes k h)))))
   where
     some : {X : Type 0} (o : Option X) (x : X) → o ≡ Some x → IsSome o
     some {X} o x q = subst (λ (p : Option X). IsSome p) (sym q) refl

@@ -12,7 +12,7 @@ pub loop-source-preserved : goal.loop-source-preserved
 loop-source-preserved c = λ k w.
     let x = get_or c.args.sources.now c.loop-source.source-index 0 in
     elim (among_more c.args.sources.now c.loop-source.source-index x k
-      (slice_get-get_or c.args.sources.now c.loop-source.source-index 0 c.loop-source-test.true) w) [
+    (slice_get-get_or c.args.sources.now c.loop-source.source-index 0 c.loop-source-test.true) w) [
       | inl v ↦ c.loop-source.invariant k v
       | inr e ↦ subst (HasRoomIn c.args.edges.now) (sym e) (c.room.ensures.room.0 c.if-not-room.false)
     ]

@@ -11,8 +11,8 @@ use Rattle.felm_core.specs.Positions.{done_at}
 use Rattle.felm_core.proofs.Runs.{inner_there}
 use Rattle.felm_core.proofs.Sticks.{done_within}
 use Rattle.felm_engine.specs.Queued.{QueueValue}
-use Rattle.felm_engine.specs.Inside.{position_of, parts_of}
-use Rattle.felm_engine.proofs.Edged.{in_room}
+use Rattle.felm_engine.specs.Inside.{position_of}
+use Rattle.felm_engine.proofs.Standing.{in_room}
 use Rattle.felm_engine.proofs.SourceLists.{all_sources, all_distinct}
 use Rattle.felm_engine.proofs.Entering.{Held, IsReadyFor, EntersFrom, HasEntered, MayEnter, has_entered, done_most, same_room_in, due_prepared, due_ready, roomy_ready, counts_after, on_ok, over_within, over_distinct, over_roomy}
 use Rattle.felm_engine.proofs.Refusals.{held_by, still_stands, not_grown, not_touched, grown_same}
@@ -50,8 +50,12 @@ reserve_queues-requires-clause-inner c =
 
 pub reserve_queues-requires-clause-sent : goal.reserve_queues-requires-clause-sent
 reserve_queues-requires-clause-sent c = λ k.
-    omega (arith, done_most (plan_of c.self.inside.plan) (position_of c.self.inside) k c.self.invariant.made.graph c.self.invariant.sound,
-    ap (λ ds. done_at ds k) c.deref.ensures.value, c.len-events.ensures)
+    omega (
+      arith,
+      done_most (plan_of c.self.inside.plan) (position_of c.self.inside) k c.self.invariant.made.graph c.self.invariant.sound,
+      ap (λ ds. done_at ds k) c.deref.ensures.value,
+      c.len-events.ensures,
+    )
 
 pub invariant_of-self-in_err-reserve_queues : goal.invariant_of-self-in_err-reserve_queues
 invariant_of-self-in_err-reserve_queues c =
@@ -66,10 +70,14 @@ prepare-requires c =
     let source : is_source a.plan.graph.nodes c.args.event.source ≡ true = rw (← c.self.view_is) at c.requires.may.source in
     let are = c.over-asyncs.ensures ∙ i.made.asyncs_are.over c.args.event.source (source_within a.plan.graph.nodes c.args.event.source source) in
     record {
-      within = λ j b h. omega (arith,
+      within = λ j b h. omega (
+        arith,
         over_within (plan_of a.plan) (position_of a) c.args.event c.as_slice-sources.result.now c.over-asyncs.result.now a.waiting a.waiting i.made.graph source
-        (c.as_slice-sources.ensures ∙ i.made.sources_are) are j b h,
-        c.reserve_queues.ensures.stays.lengths, i.holds.waiting_length, length-map a.waiting (λ (q : QueueValue). q.items));
+            (c.as_slice-sources.ensures ∙ i.made.sources_are) are j b h,
+        c.reserve_queues.ensures.stays.lengths,
+        i.holds.waiting_length,
+        length-map a.waiting (λ (q : QueueValue). q.items),
+      );
     }
 
 pub invariant_of-self-in_err-prepare : goal.invariant_of-self-in_err-prepare
@@ -121,7 +129,7 @@ put_messages-requires-clause-room c =
     let place = rw (← c.self.view_is) at c.requires.place.room in
     all_sources a.plan.graph.nodes c.as_slice-sources.result.now (c.as_slice-sources.ensures ∙ i.made.sources_are) (HasRoomIn c.prepare_messages.new.edges)
     (λ k h. same_room_in a.edges c.prepare_messages.new.edges k c.prepare_messages.ensures.stays
-      (in_room (plan_of a.plan) (position_of a) a.edges (parts_of a) i.made.graph i.sound i.made.wiring_is i.made.capacity_is i.holds k (place k h)))
+    (in_room a i k (place k h)))
 
 pub put_messages-requires-clause-prepared : goal.put_messages-requires-clause-prepared
 put_messages-requires-clause-prepared c =
@@ -147,8 +155,14 @@ pub take_first-requires : goal.take_first-requires
 take_first-requires c =
     let a = c.self.inside in
     let source : is_source a.plan.graph.nodes c.args.event.source ≡ true = rw (← c.self.view_is) at c.requires.may.source in
-    omega (arith, source_within a.plan.graph.nodes c.args.event.source source, c.prepare.ensures.stays.lengths, c.reserve_queues.ensures.stays.lengths,
-    c.self.invariant.holds.waiting_length, length-map a.waiting (λ (q : QueueValue). q.items))
+    omega (
+      arith,
+      source_within a.plan.graph.nodes c.args.event.source source,
+      c.prepare.ensures.stays.lengths,
+      c.reserve_queues.ensures.stays.lengths,
+      c.self.invariant.holds.waiting_length,
+      length-map a.waiting (λ (q : QueueValue). q.items),
+    )
 
 pub put-requires-clause-within : goal.put-requires-clause-within
 put-requires-clause-within c =
@@ -156,11 +170,16 @@ put-requires-clause-within c =
     let i = c.self.invariant in
     let source : is_source a.plan.graph.nodes c.args.event.source ≡ true = rw (← c.self.view_is) at c.requires.may.source in
     let are = c.over-asyncs.ensures ∙ i.made.asyncs_are.over c.args.event.source (source_within a.plan.graph.nodes c.args.event.source source) in
-    λ j b h. omega (arith,
+    λ j b h. omega (
+      arith,
       over_within (plan_of a.plan) (position_of a) c.args.event c.as_slice-sources.result.now c.over-asyncs.result.now a.waiting a.waiting i.made.graph source
-      (c.as_slice-sources.ensures ∙ i.made.sources_are) are j b h,
-      c.take_first.ensures.lengths, c.prepare.ensures.stays.lengths, c.reserve_queues.ensures.stays.lengths, i.holds.waiting_length,
-      length-map a.waiting (λ (q : QueueValue). q.items))
+          (c.as_slice-sources.ensures ∙ i.made.sources_are) are j b h,
+      c.take_first.ensures.lengths,
+      c.prepare.ensures.stays.lengths,
+      c.reserve_queues.ensures.stays.lengths,
+      i.holds.waiting_length,
+      length-map a.waiting (λ (q : QueueValue). q.items),
+    )
 
 pub put-requires-clause-distinct : goal.put-requires-clause-distinct
 put-requires-clause-distinct c =
@@ -181,7 +200,7 @@ put-requires-clause-room c =
     over_roomy (plan_of a.plan) (position_of a) c.args.event srcs c.over-asyncs.result.now c.prepare.new.self c.take_first.new.self i.made.graph source
     (c.as_slice-sources.ensures ∙ i.made.sources_are) are
     (roomy_ready (plan_of a.plan) (position_of a) srcs c.nodes.result.now c.deref.result.now c.len-events.result c.reserve_queues.new.waiting c.prepare.new.self
-      c.nodes.ensures.nodes c.deref.ensures.value c.len-events.ensures c.in_ok-reserve_queues.ensures.ok c.prepare.ensures.stays)
+    c.nodes.ensures.nodes c.deref.ensures.value c.len-events.ensures c.in_ok-reserve_queues.ensures.ok c.prepare.ensures.stays)
     c.take_first.ensures
 
 pub show-requires : goal.show-requires
@@ -246,11 +265,11 @@ entered c =
     (with_items a.done c.count_messages.new.done).items i.made.graph i.sound i.typed may sources_are over_are i.made.wiring_is i.holds
     (λ v h. c.in_ok-shown.ensures v (ap (λ vs. slice_get vs a.plan.graph.main) c.deref-3.ensures.value ∙ h)) first enters
     (on_ok c.push.result (c.push.new.self.items ≡ c.reserve.new.self.items ++ e ∷ []) (c.push.ensures.room (omega (arith, c.in_ok-reserve.ensures.ok))) c.push.ensures.ok
-      ∙ ap (λ j. j ++ e ∷ []) c.reserve.ensures.items)
+    ∙ ap (λ j. j ++ e ∷ []) c.reserve.ensures.items)
     (counts_after srcs (c.len-events.result + 1) (length a.journal.items + 1) c.deref_mut.result.now a.done.items c.count_messages.new.done
-      (with_items a.done c.count_messages.new.done).items (ap (λ n. n + 1) c.len-events.ensures) c.deref_mut.ensures.value
-      (with_items_is a.done c.count_messages.new.done (omega (arith, c.count_messages.ensures.lengths, ap length c.deref_mut.ensures.value, a.done.ok.0)))
-      c.count_messages.ensures)
+    (with_items a.done c.count_messages.new.done).items (ap (λ n. n + 1) c.len-events.ensures) c.deref_mut.ensures.value
+    (with_items_is a.done c.count_messages.new.done (omega (arith, c.count_messages.ensures.lengths, ap length c.deref_mut.ensures.value, a.done.ok.0)))
+    c.count_messages.ensures)
 
 pub invariant_of-self-2 : goal.invariant_of-self-2
 invariant_of-self-2 c =
