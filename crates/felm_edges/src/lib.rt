@@ -1,0 +1,14 @@
+//! The edges of a graph: for each port of each node a bounded list of messages, and for each node
+//! the message that its readers will get next.
+#![tactic(auto)]
+
+mod edge;
+mod edges;
+mod making;
+mod outlet;
+mod ports;
+mod readers;
+#[cfg(test)]
+mod tests;
+
+pub use edges::Edges;

@@ -1,0 +1,13 @@
+pub mod OverLists
+pub mod Queuing
+pub mod Flags
+pub mod Edged
+pub mod Moving
+pub mod Counting
+pub mod Beginning
+pub mod Standing
+pub mod Stopping
+pub mod EachSource
+pub mod SourceLists
+pub mod Entering
+pub mod Refusals

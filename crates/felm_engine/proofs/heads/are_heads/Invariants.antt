@@ -1,0 +1,7 @@
+use Rattle.std.proofs.Common.{◌≡◌, ℕ, ◌<◌}
+use Rattle.std.specs.List.{slice_get}
+use Rattle.felm_edges.specs.EdgesValue.{edge_in}
+use Rattle.felm_engine.proofs.heads.are_heads.Given as goal
+
+abbrev pub invariant-loop-port : goal.invariant-loop-port
+invariant-loop-port l = (p : ℕ) → p < l.port → slice_get l.inputs p ≡ slice_get (edge_in l.edges l.node p) 0
