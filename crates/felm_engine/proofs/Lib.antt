@@ -7,3 +7,4 @@ pub mod Counting
 pub mod Beginning
 pub mod Standing
 pub mod Stopping
+pub mod EngineLaws

@@ -5,4 +5,5 @@ pub mod Queued
 pub mod Answers
 pub mod Stops
 pub mod Inside
+pub mod Laws
 pub mod Heads
