@@ -7,6 +7,7 @@ pub mod Counting
 pub mod Beginning
 pub mod Standing
 pub mod Stopping
+pub mod EngineLaws
 pub mod EachSource
 pub mod SourceLists
 pub mod Entering

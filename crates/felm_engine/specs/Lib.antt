@@ -5,5 +5,6 @@ pub mod Queued
 pub mod Answers
 pub mod Stops
 pub mod Inside
+pub mod Laws
 pub mod Heads
 pub mod Sources

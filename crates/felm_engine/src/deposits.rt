@@ -47,9 +47,7 @@ impl Engine {
         ensures plan { self.new.plan ≡ self.old.plan }
         ensures position { self.new.position ≡ all_reopened self.old.position }
     {
-        for out in self.out.iter_mut() {
-            *out = false;
-        }
+        self.out.fill(false);
         self.turns_out = 0;
     }
 

@@ -1,4 +1,4 @@
-ghost use Rattle.std.specs.Prelude.{◌≡◌, ◌↔◌, ◌<◌, ◌^◌, ℕ, Some, true, false, length, slice_get, IsTrue, IfOk, option_copied};
+ghost use Rattle.std.specs.Prelude.{◌≡◌, ◌↔◌, ◌<◌, ◌^◌, ℕ, Some, true, false, length, replicate, slice_get, IsTrue, IfOk, option_copied};
 ghost use Rattle.felm_meaning.specs.Nodes.{inner};
 
 use crate::answers::Stop;
@@ -75,8 +75,8 @@ impl Engine {
         let asyncs = Asyncs::of(alloc, graph)?;
         let sources = sources(alloc, graph)?;
         let kept = copies(alloc, defaults.as_slice())?;
-        let done = vec![in alloc; 0; nodes].map_err(|_| Memory)?;
-        let out = vec![in alloc; false; nodes].map_err(|_| Memory)?;
+        let done = zeros(alloc, nodes)?;
+        let out = clear_flags(alloc, nodes)?;
         Ok(Engine {
             plan,
             journal: Items::make(alloc),
@@ -162,6 +162,18 @@ impl Engine {
     {
         self.waiting.first(node)
     }
+}
+
+fn zeros(alloc: Global, count: usize) -> Result<Vec<u64>, Memory>
+    ensures { IfOk result (λ zeros. zeros.items ≡ replicate count 0) }
+{
+    vec![in alloc; 0; count].map_err(|_| Memory)
+}
+
+fn clear_flags(alloc: Global, count: usize) -> Result<Vec<bool>, Memory>
+    ensures { IfOk result (λ flags. flags.items ≡ replicate count false) }
+{
+    vec![in alloc; false; count].map_err(|_| Memory)
 }
 
 fn copies(alloc: Global, values: &[Value]) -> Result<Vec<Value>, Memory>

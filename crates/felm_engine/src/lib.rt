@@ -8,6 +8,7 @@ mod deposits;
 mod dispatch;
 mod engine;
 mod heads;
+mod laws;
 mod lists;
 mod queue;
 mod sources;
@@ -16,3 +17,7 @@ mod waiting;
 pub use answers::{Claim, Deposit, Entered, Fed, Stop};
 pub use bench::Bench;
 pub use engine::Engine;
+pub use laws::{
+    calls_are_moves, engines_follow_their_moves, engines_never_stick, journals_have_causes,
+    reopening_all_is_a_run, settled_engines_have_room,
+};
