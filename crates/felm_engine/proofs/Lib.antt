@@ -8,3 +8,7 @@ pub mod Beginning
 pub mod Standing
 pub mod Stopping
 pub mod EngineLaws
+pub mod EachSource
+pub mod SourceLists
+pub mod Entering
+pub mod Refusals

@@ -49,6 +49,10 @@ pub record MayComeIn (engine : EngineValue) (e : Event) : Type 0 where
 abbrev pub coming_in : List Node → Event → Move
 coming_in nodes e = option_map_or (λ x. Enter e.source) (inner nodes e.source) (Feed e.source e.value)
 
+-- each source has room
+abbrev pub AllHaveRoom : PlanValue → Position → Type 0
+AllHaveRoom plan position = (k : ℕ) → is_source plan.graph.nodes k ≡ true → HasRoom plan position.done k
+
 -- some source has no room
 abbrev pub LacksRoom : PlanValue → Position → Type 0
 LacksRoom plan position = (k : ℕ) × (is_source plan.graph.nodes k ≡ true) × ¬ HasRoom plan position.done k

@@ -7,3 +7,4 @@ pub mod Stops
 pub mod Inside
 pub mod Laws
 pub mod Heads
+pub mod Sources

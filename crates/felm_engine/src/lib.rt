@@ -11,6 +11,7 @@ mod heads;
 mod laws;
 mod lists;
 mod queue;
+mod sources;
 mod waiting;
 
 pub use answers::{Claim, Deposit, Entered, Fed, Stop};
