@@ -1,13 +1,12 @@
 -- What an engine holds before and after an event.
-use Rattle.std.proofs.Common.{◌≡◌, ◌↔◌, ℕ, suc, zero, ◌+◌, ◌-◌, ◌<◌, ◌≤◌, ◌⊎◌, inl, inr, Bool, true, false, cond, eqb, Option, Some, None, Result, Ok, Err, List, [], ◌∷◌, ◌++◌, length, map, drop, set, get_or, refl, sym, ap, ◌∙◌, subst, arith}
+use Rattle.std.proofs.Common.{◌≡◌, ℕ, suc, zero, ◌+◌, ◌-◌, ◌<◌, ◌≤◌, ◌⊎◌, inl, inr, Bool, true, false, cond, eqb, Option, Some, None, Result, Ok, Err, List, [], ◌∷◌, ◌++◌, length, map, drop, set, get_or, refl, sym, ap, ◌∙◌, subst, arith}
 use Rattle.std.specs.List.{slice_get, All}
 use Rattle.std.specs.Option.{option_to_list, option_map_or, IsSome}
 use Rattle.std.specs.Result.{IsOk, OnOk}
 use Rattle.std.proofs.lemmas.Bool.{cases_eq, cases_lt, false≢true, eq-eqb}
 use Rattle.std.proofs.lemmas.Bool.Decides.{nat_tests}
-use Rattle.std.proofs.lemmas.Grind.{common_steps}
 use Rattle.std.proofs.lemmas.Option.{same_Some, none-some, slice_get-get_or}
-use Rattle.std.proofs.lemmas.List.{length-map, length-set, length-append, append-nil, get_or-map, get_or_past, same_lists, get_or_default}
+use Rattle.std.proofs.lemmas.List.{length-map, length-set, append-nil, get_or_past, same_lists, get_or_default}
 use Rattle.felm_term.specs.Spared.{Spared}
 use Rattle.felm_term.specs.Values.{value_of}
 use Rattle.felm_term.specs.declared.value.Value.{Value}
@@ -24,22 +23,22 @@ use Rattle.felm_meaning.specs.Types.{EventsFit}
 use Rattle.felm_meaning.proofs.Graphs.{ordered}
 use Rattle.felm_meaning.proofs.Legal.{async_is_source, source_is_one, source_within}
 use Rattle.felm_edges.specs.EdgesValue.{EdgesValue, wiring_of, IsWired, ReadsIn, edge_in, prepared_in, HasRoomIn}
-use Rattle.felm_edges.proofs.Wiring.{reads_wired, wired_reads}
-use Rattle.felm_core.specs.Positions.{Position, done_at, Reads, HasRoom, IsSound}
-use Rattle.felm_core.specs.Contents.{edge_at, kept_at, waiting_at, owed_at}
-use Rattle.felm_core.specs.Moves.{Move, Feed, Enter, Leads, HasPlace, FitsNode, counted, with_next}
+use Rattle.felm_edges.proofs.Wiring.{reads_wired}
+use Rattle.felm_core.specs.Positions.{Position, done_at, Reads, IsSound}
+use Rattle.felm_core.specs.Contents.{waiting_at, owed_at}
+use Rattle.felm_core.specs.Moves.{Feed, Enter, Leads, HasPlace, FitsNode, counted, with_next}
 use Rattle.felm_core.specs.Laws.{ComesIn}
 use Rattle.felm_core.specs.Holds.{Parts, waiting_of, Holds, EventFrom, Spares, KeepsRoom, KeepsRoomForNext}
 use Rattle.felm_core.specs.EngineLaws.{message_by}
 use Rattle.felm_core.proofs.Wiring.{length-counted, counted-source, counted-other}
-use Rattle.felm_core.proofs.Holds.{slice_get-set_same, slice_get-set_other, room_by_edges, event_holds, source_sends_is}
+use Rattle.felm_core.proofs.Holds.{slice_get-set_same, slice_get-set_other, event_holds, source_sends_is}
 use Rattle.felm_core.proofs.Spares.{event_room}
 use Rattle.felm_core.proofs.Runs.{move_sound}
 use Rattle.felm_core.proofs.Scripted.{move_fits}
 use Rattle.felm_core.proofs.Sticks.{done_within}
 use Rattle.felm_engine.specs.Lists.{asyncs_over, sources_of}
 use Rattle.felm_engine.specs.Answers.{coming_in}
-use Rattle.felm_engine.specs.Queued.{QueueValue, queue_at, put_value, AreDistinct, IsIn, SameQueues, ArePrepared, PutInto, TakenFrom}
+use Rattle.felm_engine.specs.Queued.{QueueValue, queue_at, AreDistinct, IsIn, SameQueues, ArePrepared, PutInto, TakenFrom}
 use Rattle.felm_engine.specs.Sources.{SameEdges, AreDue, PutAll, CountedAs, Grown, AreRoomy, shown_by}
 use Rattle.felm_engine.proofs.OverLists.{asyncs-over, over-asyncs, asyncs-distinct}
 use Rattle.felm_engine.proofs.SourceLists.{source_there, no_source, all_sources}

@@ -7,8 +7,8 @@ pub mod Counting
 pub mod Beginning
 pub mod Standing
 pub mod Stopping
+pub mod EngineLaws
 pub mod EachSource
 pub mod SourceLists
 pub mod Entering
 pub mod Refusals
-pub mod EngineLaws

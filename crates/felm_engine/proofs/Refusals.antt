@@ -10,12 +10,11 @@ use Rattle.felm_meaning.specs.PlanValue.{PlanValue}
 use Rattle.felm_meaning.specs.Plans.{plan_of}
 use Rattle.felm_meaning.specs.Types.{EventsFit}
 use Rattle.felm_core.specs.Positions.{Position, IsSound}
-use Rattle.felm_core.specs.Holds.{Parts, waiting_of, Holds, KeepsRoom}
+use Rattle.felm_core.specs.Holds.{Holds, KeepsRoom}
 use Rattle.felm_edges.specs.EdgesValue.{EdgesValue, edge_in}
-use Rattle.felm_engine.specs.Answers.{turns_out_at}
-use Rattle.felm_engine.specs.Queued.{QueueValue, queue_at, SameQueues}
+use Rattle.felm_engine.specs.Queued.{QueueValue, SameQueues}
 use Rattle.felm_engine.specs.Sources.{SameEdges, Grown}
-use Rattle.felm_engine.specs.Inside.{IsMade, IsStanding, position_of, parts_of, spares_of}
+use Rattle.felm_engine.specs.Inside.{IsStanding, position_of}
 use Rattle.felm_engine.specs.declared.engine.Engine.TheInside.{Inside}
 use Rattle.felm_engine.proofs.Entering.{Held, parts_in, spares_in, waiting_in}
 

@@ -1,7 +1,6 @@
-use Rattle.std.proofs.Common.{◌≡◌, ◌<◌, length, get_or, ap, sym, ◌∙◌, arith, subst}
-use Rattle.std.specs.List.{slice_get}
+use Rattle.std.proofs.Common.{◌≡◌, ◌<◌, length, get_or, sym, arith, subst}
 use Rattle.std.proofs.lemmas.Option.{slice_get-get_or, slice_get_read}
-use Rattle.felm_engine.proofs.EachSource.{DueSoFar, due_none, due_more, due_all, all_at}
+use Rattle.felm_engine.proofs.EachSource.{DueSoFar, due_more, due_all, all_at}
 use Rattle.felm_engine.proofs.sources.prepare_messages.Goals as goal
 
 pub loop-source-preserved : goal.loop-source-preserved

@@ -1,7 +1,6 @@
-use Rattle.std.proofs.Common.{◌≡◌, ◌<◌, length, get_or, ap, arith, subst}
-use Rattle.std.specs.List.{slice_get}
+use Rattle.std.proofs.Common.{◌≡◌, length, arith, subst}
 use Rattle.std.proofs.lemmas.Option.{slice_get-get_or}
-use Rattle.felm_engine.proofs.EachSource.{PutSoFar, put_none, put_more, put_room, put_prepared, put_all}
+use Rattle.felm_engine.proofs.EachSource.{PutSoFar, put_more, put_room, put_prepared, put_all}
 use Rattle.felm_engine.proofs.sources.put_messages.Goals as goal
 
 pub put-requires-clause-room : goal.put-requires-clause-room

@@ -1,7 +1,6 @@
-use Rattle.std.proofs.Common.{◌≡◌, ◌+◌, ◌-◌, ◌<◌, ◌≤◌, Some, None, length, get_or, sym, arith, subst}
+use Rattle.std.proofs.Common.{◌≡◌, ◌+◌, ◌-◌, ◌<◌, Some, length, get_or, sym, arith, subst}
 use Rattle.std.specs.List.{slice_get}
 use Rattle.std.proofs.lemmas.Option.{slice_get-get_or}
-use Rattle.felm_meaning.specs.Nodes.{inner}
 use Rattle.felm_core.specs.Positions.{done_at}
 use Rattle.felm_engine.specs.Queued.{queue_at}
 use Rattle.felm_engine.proofs.EachSource.{RoomySoFar, roomy_more, roomy_same, roomy_all, all_at, inner_there, inner_none}

@@ -1,11 +1,11 @@
-use Rattle.std.proofs.Common.{◌≡◌, ℕ, ◌+◌, ◌-◌, ◌<◌, ◌≤◌, true, [], ◌∷◌, ◌++◌, length, set, refl, sym, ap, ◌∙◌, arith}
+use Rattle.std.proofs.Common.{◌≡◌, ◌+◌, ◌<◌, true, [], ◌∷◌, ◌++◌, length, set, refl, ap, ◌∙◌, arith}
 use Rattle.std.specs.List.{slice_get}
 use Rattle.std.specs.Vec.{with_item, with_items}
 use Rattle.std.proofs.lemmas.List.{get_or_read, length-map, with_items_is}
 use Rattle.felm_graph.specs.Nodes.{is_source}
 use Rattle.felm_meaning.specs.Plans.{plan_of}
 use Rattle.felm_meaning.proofs.Legal.{source_within}
-use Rattle.felm_edges.specs.EdgesValue.{prepared_in, HasRoomIn}
+use Rattle.felm_edges.specs.EdgesValue.{HasRoomIn}
 use Rattle.felm_edges.proofs.Wiring.{length-wiring_of}
 use Rattle.felm_core.specs.Positions.{done_at}
 use Rattle.felm_core.proofs.Runs.{inner_there}
