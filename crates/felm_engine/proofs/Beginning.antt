@@ -1,5 +1,5 @@
 -- A new engine stands for the beginning of its plan's run.
-use Rattle.std.proofs.Common.{◌≡◌, ℕ, suc, zero, ◌<◌, ◌≤◌, Bool, false, Some, None, List, [], ◌∷◌, length, map, get_or, refl, sym, ap, subst, ◌∙◌, arith}
+use Rattle.std.proofs.Common.{◌≡◌, ℕ, ◌<◌, Bool, false, None, List, [], length, get_or, refl, sym, ap, subst, ◌∙◌, arith}
 use Rattle.std.specs.Prelude.{replicate}
 use Rattle.std.specs.List.{slice_get}
 use Rattle.std.proofs.lemmas.Option.{none-some}
@@ -54,7 +54,7 @@ begun_holds plan at edges kept defaults waiting outputs a empty k n d w o =
     (subst (λ (vs : List Value). Holds plan (beginning plan.graph) (edge_in edges) (record { kept = vs; waiting = waiting; outputs = outputs; settled = 0 })) (sym k)
     (subst (λ (ls : List (List Value)). Holds plan (beginning plan.graph) (edge_in edges) (record { kept = defaults; waiting = ls; outputs = outputs; settled = 0 })) (sym w)
     (subst (λ (ms : List Message). Holds plan (beginning plan.graph) (edge_in edges)
-        (record { kept = defaults; waiting = replicate (length plan.graph.nodes) []; outputs = ms; settled = 0 })) (sym o)
+    (record { kept = defaults; waiting = replicate (length plan.graph.nodes) []; outputs = ms; settled = 0 })) (sym o)
     (beginning_holds plan (edge_in edges) defaults empty n d))))
 
 -- no event has a wrong type where there is none

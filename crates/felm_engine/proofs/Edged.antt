@@ -1,5 +1,5 @@
 -- What the edges of an engine tell of its position.
-use Rattle.std.proofs.Common.{◌≡◌, ℕ, suc, zero, ◌+◌, ◌<◌, ◌≤◌, ◌⊎◌, inl, inr, Option, Some, None, List, [], ◌∷◌, length, map, get_or, refl, sym, ap, ◌∙◌, subst, arith}
+use Rattle.std.proofs.Common.{◌≡◌, ℕ, suc, zero, ◌<◌, Option, Some, None, List, [], ◌∷◌, length, map, get_or, refl, sym, ap, ◌∙◌, subst, arith}
 use Rattle.std.specs.List.{slice_get}
 use Rattle.std.specs.Option.{option_map, option_and_then}
 use Rattle.std.proofs.lemmas.Option.{none-some, same_Some, slice_get_within, slice_get-get_or}
@@ -87,9 +87,9 @@ module _ (plan : PlanValue) (c : Position) (edges : EdgesValue) (parts : Parts) 
   pub room_in : (k : ℕ) → HasRoomIn edges k → HasRoom plan c.done k
   room_in k room = (room_by_edges plan c graph sound k).1
       (λ r port h.
-          let l : length (edge_in edges r port) < edges.capacity = room r port (wired r port k h) in
-          let e : length (edge_in edges r port) ≡ length (edge_at plan c k r) = ap length (holds.edges_are r port k h) in
-          omega (arith, l, e, capacity))
+      let l : length (edge_in edges r port) < edges.capacity = room r port (wired r port k h) in
+      let e : length (edge_in edges r port) ≡ length (edge_at plan c k r) = ap length (holds.edges_are r port k h) in
+      omega (arith, l, e, capacity))
 
   pub in_room : (k : ℕ) → HasRoom plan c.done k → HasRoomIn edges k
   in_room k room r port h =
@@ -103,9 +103,9 @@ module _ (plan : PlanValue) (c : Position) (edges : EdgesValue) (parts : Parts) 
   heads_in k ms heads =
       all_of-from (λ a. slice_get (edge_at plan c a k) 0) (arguments_of plan.graph.nodes k) ms (heads.ports ∙ ap length (ports_are k))
       (λ port a h.
-          let l : port < length (arguments_of plan.graph.nodes k) = slice_get_within (arguments_of plan.graph.nodes k) port a h in
-          let n : length (read_in edges k) ≡ length (arguments_of plan.graph.nodes k) = ap length (ports_are k) in
-          heads.first port (omega (arith, l, n, heads.ports)) ∙ ap (λ (xs : List Message). slice_get xs 0) (holds.edges_are k port a h))
+      let l : port < length (arguments_of plan.graph.nodes k) = slice_get_within (arguments_of plan.graph.nodes k) port a h in
+      let n : length (read_in edges k) ≡ length (arguments_of plan.graph.nodes k) = ap length (ports_are k) in
+      heads.first port (omega (arith, l, n, heads.ports)) ∙ ap (λ (xs : List Message). slice_get xs 0) (holds.edges_are k port a h))
 
   pub in_heads : (k : ℕ) (ms : List Message) → heads_at plan c k ≡ Some ms → AreHeads edges k ms
   in_heads k ms h = record { ports = parts_of.0 ∙ sym (ap length (ports_are k)); first = first }

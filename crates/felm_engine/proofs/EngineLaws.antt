@@ -1,17 +1,13 @@
 -- Laws of engines.
-use Rattle.std.proofs.Common.{◌≡◌, ◌⊎◌, inl, inr, ◌↔◌, ℕ, zero, suc, ◌<◌, ◌≤◌, false, List, [], ◌∷◌, ◌++◌, Bool, Option, Some, None, length, set, get_or, drop, take, refl, sym, ap, ◌∙◌, subst, arith}
+use Rattle.std.proofs.Common.{◌≡◌, inl, inr, ℕ, zero, suc, false, List, [], ◌∷◌, Bool, Option, Some, None, length, set, refl, ap, ◌∙◌, subst}
 use Rattle.std.specs.Prelude.{replicate}
-use Rattle.std.proofs.lemmas.List.{length-set}
-use Rattle.felm_term.specs.declared.event.Event.{Event}
-use Rattle.felm_graph.specs.Graphs.{IsGraph}
 use Rattle.felm_meaning.specs.PlanValue.{PlanValue}
 use Rattle.felm_meaning.specs.declared.plan.Plan.{Plan}
 use Rattle.felm_meaning.specs.Plans.{plan_of}
-use Rattle.felm_meaning.specs.OfPlans.{DefaultsThereFor}
-use Rattle.felm_core.specs.Positions.{Position, IsSound, IsReady, IsSettled}
-use Rattle.felm_core.specs.Moves.{Move, Reopen, Runs, beginning, reopened}
+use Rattle.felm_core.specs.Positions.{Position, IsReady}
+use Rattle.felm_core.specs.Moves.{Move, Runs, reopened}
 use Rattle.felm_engine.specs.EngineValue.{EngineValue}
-use Rattle.felm_engine.specs.Answers.{planned, Moved, EnteredAs, ClaimedAs, ClaimedNextAs, all_reopened}
+use Rattle.felm_engine.specs.Answers.{planned, ClaimedAs, ClaimedNextAs, all_reopened}
 use Rattle.felm_engine.specs.Laws.{Follows, moves_in, reopenings, MovedOrStayed}
 use Rattle.felm_engine.specs.declared.answers.Claim as answers
 use Rattle.felm_engine.specs.declared.answers.Claim.TheVariants as claim
@@ -30,8 +26,7 @@ follows_runs old new (None ∷ more) (between, stayed, rest) =
     let ih = follows_runs between new more rest in
     subst (λ (e : EngineValue). (new.plan ≡ e.plan) × Runs (planned e) e.position (moves_in more) new.position) stayed ih
 follows_runs old new (Some move ∷ more) (between, moved, rest) =
-    let ih = follows_runs between new more rest in
-    (
+    let ih = follows_runs between new more rest in (
       ih.0 ∙ moved.plan,
       (between.position, moved.leads, subst (λ (p : Plan). Runs (plan_of p) between.position (moves_in more) new.position) moved.plan ih.1),
     )

@@ -1,37 +1,32 @@
 -- What each move leaves of an engine's fields.
-use Rattle.std.proofs.Common.{◌≡◌, ℕ, suc, zero, ◌+◌, ◌*◌, ◌^◌, ◌<◌, ◌≤◌, ◌⊎◌, inl, inr, Bool, true, false, cond, eqb, Option, Some, None, List, [], ◌∷◌, ◌++◌, length, map, drop, set, get_or, refl, sym, ap, ◌∙◌, subst, arith}
-use Rattle.std.specs.Prelude.{replicate}
+use Rattle.std.proofs.Common.{◌≡◌, ℕ, suc, zero, ◌+◌, ◌^◌, ◌<◌, ◌≤◌, inl, inr, Bool, true, false, cond, eqb, Option, Some, None, List, [], ◌∷◌, ◌++◌, length, map, drop, set, get_or, refl, sym, ap, ◌∙◌, subst, arith}
 use Rattle.std.specs.List.{slice_get}
 use Rattle.std.specs.Option.{option_to_list, is_some}
-use Rattle.std.proofs.lemmas.Bool.{cases_eq, cases_lt, false≢true, eqb-true}
-use Rattle.std.proofs.lemmas.Option.{none-some, same_Some}
-use Rattle.std.proofs.lemmas.List.{length-map, length-set, length-replicate, get_or-map, get_or_past, same_lists, append-nil}
+use Rattle.std.proofs.lemmas.Bool.{cases_lt, false≢true, eqb-true}
+use Rattle.std.proofs.lemmas.Option.{none-some}
+use Rattle.std.proofs.lemmas.List.{length-map, get_or-map, get_or_past, same_lists, append-nil}
 use Rattle.felm_term.specs.Values.{value_of}
 use Rattle.felm_term.specs.Spared.{Spared}
 use Rattle.felm_term.specs.declared.value.Value.{Value}
 use Rattle.felm_term.specs.declared.message.Message.{Message}
 use Rattle.felm_graph.specs.declared.node.Node.{Node}
 use Rattle.felm_graph.specs.Graphs.{IsGraph}
-use Rattle.felm_graph.specs.Nodes.{arguments_of}
 use Rattle.felm_meaning.specs.PlanValue.{PlanValue}
 use Rattle.felm_meaning.specs.OfPlans.{msg_for}
 use Rattle.felm_meaning.specs.Nodes.{inner}
 use Rattle.felm_meaning.specs.Meaning.{changed_in}
 use Rattle.felm_meaning.proofs.Graphs.{ordered}
-use Rattle.felm_core.specs.Positions.{StopValue, Position, done_at, is_out, Reads, IsSound, HasTurn}
-use Rattle.felm_core.specs.Contents.{settled_at}
+use Rattle.felm_core.specs.Positions.{StopValue, Position, done_at, is_out, Reads, IsSound}
 use Rattle.felm_core.specs.Moves.{stop_or, sent}
-use Rattle.felm_core.specs.Holds.{Edges, Parts, waiting_of, Holds, SentFrom, Spares, KeepsRoom, SpendsFrom}
+use Rattle.felm_core.specs.Holds.{Edges, Parts, Holds, SentFrom, KeepsRoom, SpendsFrom}
 use Rattle.felm_core.proofs.Turns.{stopped_sound}
 use Rattle.felm_core.proofs.Sticks.{done_within}
-use Rattle.felm_core.proofs.Wiring.{reader_within}
 use Rattle.felm_edges.specs.EdgesValue.{EdgesValue, IsWired, ReadsIn, edge_in, HasRoomIn, IsFedIn}
 use Rattle.felm_edges.specs.Changes.{PreparedFrom, PutFrom, DroppedFrom}
 use Rattle.felm_engine.specs.Inside.{IsMade}
 use Rattle.felm_engine.specs.Lists.{asyncs_over}
 use Rattle.felm_engine.specs.Queued.{QueueValue, no_queue, queue_at, IsIn, SameQueues, PassedOn}
 use Rattle.felm_engine.proofs.OverLists.{asyncs-over, over-asyncs}
-use Rattle.felm_engine.proofs.Flags.{replicate-clear}
 
 -- ---- positions
 

@@ -1,5 +1,5 @@
 -- Stops as contracts see them.
-use Rattle.std.proofs.Common.{◌≡◌, false, true, Option, Some, None, refl, sym}
+use Rattle.std.proofs.Common.{◌≡◌, false, Option, Some, None, refl, sym}
 use Rattle.std.specs.Option.{is_some}
 use Rattle.std.proofs.lemmas.Bool.{false≢true}
 use Rattle.felm_engine.specs.Stops.{stop_of}

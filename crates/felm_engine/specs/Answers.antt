@@ -13,7 +13,7 @@ use Rattle.felm_meaning.specs.Turns.{TurnValue}
 use Rattle.felm_meaning.specs.Outcomes.{DoneValue, sent_of}
 use Rattle.felm_meaning.specs.declared.outcome.Outcome.{Outcome}
 use Rattle.felm_meaning.specs.declared.outcome.Outcome.TheVariants as outcome
-use Rattle.felm_core.specs.Positions.{Position, done_at, is_out, HasRoom, IsReady, IsSettled}
+use Rattle.felm_core.specs.Positions.{Position, done_at, is_out, HasRoom, IsReady}
 use Rattle.felm_core.specs.Contents.{kept_at, waiting_at}
 use Rattle.felm_core.specs.Moves.{Move, Feed, Enter, Claim, Send, Stop, Reopen, Leads, FitsNode}
 use Rattle.felm_core.specs.Laws.{heads_at}

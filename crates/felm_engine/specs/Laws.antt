@@ -1,5 +1,5 @@
 -- Laws of engines, in the words of their calls' contracts.
-use Rattle.std.specs.Prelude.{◌≡◌, ◌⊎◌, ◌↔◌, ℕ, zero, suc, List, [], ◌∷◌, ◌++◌, Option, Some, None, length}
+use Rattle.std.specs.Prelude.{◌≡◌, ◌⊎◌, ◌↔◌, ℕ, zero, suc, List, [], ◌∷◌, Option, Some, None, length}
 use Rattle.felm_term.specs.declared.event.Event.{Event}
 use Rattle.felm_graph.specs.Graphs.{IsGraph}
 use Rattle.felm_meaning.specs.declared.plan.Plan.{Plan}

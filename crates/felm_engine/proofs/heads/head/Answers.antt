@@ -1,5 +1,4 @@
-use Rattle.std.proofs.Common.{◌≡◌, ◌<◌, Some, None, length, sym, ◌∙◌}
-use Rattle.std.specs.List.{slice_get}
+use Rattle.std.proofs.Common.{◌∙◌}
 use Rattle.std.proofs.lemmas.Option.{none-some}
 use Rattle.felm_edges.specs.EdgesValue.{edge_in}
 use Rattle.felm_engine.proofs.Edged.{fed_at, first_of}

@@ -1,4 +1,4 @@
-use Rattle.std.proofs.Common.{inl, inr, ◌⊎◌, ℕ}
+use Rattle.std.proofs.Common.{inl, inr}
 use Rattle.felm_term.specs.declared.event.Event.{Event}
 use Rattle.felm_meaning.specs.Outcomes.{DoneValue}
 use Rattle.felm_engine.specs.EngineValue.{EngineValue}

@@ -1,4 +1,4 @@
-use Rattle.std.proofs.Common.{◌≡◌, subst, ◌∙◌}
+use Rattle.std.proofs.Common.{subst, ◌∙◌}
 use Rattle.felm_meaning.specs.declared.plan.Plan.{Plan}
 use Rattle.felm_meaning.specs.Plans.{plan_of}
 use Rattle.felm_core.specs.Positions.{Position}

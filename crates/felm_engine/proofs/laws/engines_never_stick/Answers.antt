@@ -1,5 +1,4 @@
-use Rattle.std.proofs.Common.{◌≡◌, ◌⊎◌, inl, inr, ℕ}
-use Rattle.felm_core.specs.Positions.{IsReady, IsSettled}
+use Rattle.std.proofs.Common.{inl, inr}
 use Rattle.felm_core.proofs.Sticks.{never_sticks, settled_rests}
 use Rattle.felm_engine.specs.Answers.{planned}
 use Rattle.felm_engine.proofs.EngineLaws.{not_ready_means, none_ready_means}

@@ -1,4 +1,4 @@
-use Rattle.std.proofs.Common.{sym, ap, ◌∙◌, arith, length, List, ℕ}
+use Rattle.std.proofs.Common.{sym, ap, ◌∙◌}
 use Rattle.felm_graph.specs.declared.node.NodeKind.{NodeKind}
 use Rattle.felm_meaning.specs.Nodes.{inner_of_kind}
 use Rattle.felm_engine.specs.Lists.{items_in, with_async}

@@ -1,4 +1,4 @@
-use Rattle.std.proofs.Common.{◌≡◌, ◌+◌, ◌<◌, length, true, refl, arith, set}
+use Rattle.std.proofs.Common.{◌≡◌, ◌+◌, true, refl, arith, set}
 use Rattle.felm_meaning.specs.Plans.{plan_of}
 use Rattle.felm_core.specs.Positions.{Position, IsReady}
 use Rattle.felm_core.proofs.Turns.{claim_sound}

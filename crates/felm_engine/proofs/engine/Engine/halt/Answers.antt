@@ -1,4 +1,4 @@
-use Rattle.std.proofs.Common.{◌≡◌, ◌+◌, ◌^◌, ◌<◌, suc, true, None, refl, sym, ◌∙◌, arith, set, get_or, length, false}
+use Rattle.std.proofs.Common.{◌≡◌, ◌+◌, ◌<◌, suc, true, None, refl, arith, set, length, false}
 use Rattle.std.proofs.lemmas.List.{get_or_read}
 use Rattle.felm_meaning.specs.Plans.{plan_of}
 use Rattle.felm_meaning.specs.OfPlans.{msg_for}

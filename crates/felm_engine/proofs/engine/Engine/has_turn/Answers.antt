@@ -1,11 +1,10 @@
-use Rattle.std.proofs.Common.{◌≡◌, ◌+◌, ◌<◌, ℕ, suc, Some, true, false, length, sym, ap, subst, ◌∙◌, arith, refl, get_or, List}
+use Rattle.std.proofs.Common.{◌≡◌, ◌<◌, ℕ, Some, length, sym, ap, subst, ◌∙◌, arith}
 use Rattle.std.proofs.lemmas.Bool.{false≢true}
 use Rattle.std.proofs.lemmas.Option.{same_Some}
 use Rattle.std.proofs.lemmas.List.{get_or_read}
-use Rattle.felm_term.specs.declared.message.Message.{Message}
 use Rattle.felm_meaning.specs.Plans.{plan_of}
-use Rattle.felm_meaning.specs.Nodes.{job_of, job_of_kind}
-use Rattle.felm_core.specs.Positions.{HasTurn, done_at}
+use Rattle.felm_meaning.specs.Nodes.{job_of}
+use Rattle.felm_core.specs.Positions.{HasTurn}
 use Rattle.felm_core.specs.Contents.{kept_at}
 use Rattle.felm_core.specs.Laws.{heads_at}
 use Rattle.felm_engine.specs.Answers.{IsTurnAt}

@@ -1,9 +1,7 @@
-use Rattle.std.proofs.Common.{◌≡◌, ◌<◌, true, false, length, sym, ◌∙◌, arith, get_or}
+use Rattle.std.proofs.Common.{◌≡◌, ◌<◌, false, length, sym, ◌∙◌, arith}
 use Rattle.std.proofs.lemmas.Bool.{false≢true}
 use Rattle.std.proofs.lemmas.List.{get_or_read}
-use Rattle.felm_meaning.specs.Plans.{plan_of}
 use Rattle.felm_core.specs.Positions.{is_out}
-use Rattle.felm_engine.specs.Inside.{position_of}
 use Rattle.felm_engine.proofs.Standing.{fed_in, in_fed, room_in, in_room}
 use Rattle.felm_engine.proofs.Stopping.{none_stopped}
 use Rattle.felm_engine.proofs.engine.Engine.is_ready.Goals as goal

@@ -3,7 +3,6 @@ use Rattle.std.specs.Prelude.{replicate}
 use Rattle.felm_term.specs.declared.value.Value.{Value}
 use Rattle.felm_meaning.specs.Plans.{plan_of}
 use Rattle.felm_core.specs.Positions.{Position, IsSound}
-use Rattle.felm_core.specs.Moves.{beginning}
 use Rattle.felm_core.specs.Holds.{KeepsRoom}
 use Rattle.felm_core.proofs.Runs.{beginning_sound}
 use Rattle.felm_core.proofs.Spares.{begin_room}

@@ -1,4 +1,4 @@
-use Rattle.std.proofs.Common.{◌≡◌, ◌+◌, true, refl, sym, ◌∙◌, arith, set, get_or}
+use Rattle.std.proofs.Common.{◌≡◌, ◌+◌, true, refl, sym, ◌∙◌, arith, set}
 use Rattle.std.proofs.lemmas.List.{get_or_read}
 use Rattle.felm_meaning.specs.Plans.{plan_of}
 use Rattle.felm_core.specs.Positions.{is_out}

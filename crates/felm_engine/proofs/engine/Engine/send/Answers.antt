@@ -1,4 +1,4 @@
-use Rattle.std.proofs.Common.{◌≡◌, ◌+◌, ◌<◌, ℕ, suc, cond, eqb, true, false, Some, None, List, [], length, set, get_or, refl, sym, ap, subst, ◌∙◌, arith}
+use Rattle.std.proofs.Common.{◌≡◌, ◌+◌, ◌<◌, ℕ, suc, cond, eqb, true, false, Some, None, List, length, set, sym, ap, subst, ◌∙◌, arith}
 use Rattle.std.specs.List.{slice_get}
 use Rattle.std.specs.Vec.{with_item}
 use Rattle.std.proofs.lemmas.List.{length-map, get_or_read}
@@ -96,8 +96,8 @@ drop_heads-requires-clause-fed c =
     let turn = out_has c.self.inside s node out in
     moving.fed_then node c.self.inside.edges c.prepare.new.self (Some c.args.message.now) c.in_ok-prepare.ensures.ok c.put.new.self c.put.ensures
     (λ port a h e.
-        let l : a < node = (ordered c.self.inside.plan.graph s.made.graph).down node port a (reads c.self.inside s node port a h) in
-        omega (arith, l, e))
+    let l : a < node = (ordered c.self.inside.plan.graph s.made.graph).down node port a (reads c.self.inside s node port a h) in
+    omega (arith, l, e))
     (in_fed c.self.inside s node turn.fed)
 
 pub show-requires : goal.show-requires

@@ -1,7 +1,6 @@
-use Rattle.std.proofs.Common.{◌≡◌, ◌<◌, Some, length, sym, ap, subst, ◌∙◌, arith, refl, get_or}
+use Rattle.std.proofs.Common.{◌≡◌, ◌<◌, Some, length, sym, ap, subst, ◌∙◌, arith, refl}
 use Rattle.std.proofs.lemmas.List.{get_or_read}
 use Rattle.felm_meaning.specs.Plans.{plan_of}
-use Rattle.felm_meaning.specs.Nodes.{job_of}
 use Rattle.felm_core.specs.Positions.{HasTurn}
 use Rattle.felm_core.specs.Contents.{kept_at}
 use Rattle.felm_core.proofs.Heads.{turn_typed}

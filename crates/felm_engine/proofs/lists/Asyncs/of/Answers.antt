@@ -1,10 +1,9 @@
-use Rattle.std.proofs.Common.{◌≡◌, ◌<◌, ◌∙◌, ℕ, Some, List, [], sym, ap, subst, arith, length, get_or}
-use Rattle.std.specs.List.{slice_get}
+use Rattle.std.proofs.Common.{◌≡◌, ◌<◌, ◌∙◌, ℕ, List, [], sym, ap, arith, length, get_or}
 use Rattle.std.proofs.lemmas.List.{length-map, with_items_is}
 use Rattle.std.specs.Vec.{with_items}
 use Rattle.felm_term.specs.Spared.{Spared}
 use Rattle.felm_meaning.specs.Nodes.{inner, inner_of_kind}
-use Rattle.felm_engine.specs.Lists.{asyncs_over, items_in, with_async}
+use Rattle.felm_engine.specs.Lists.{items_in, with_async}
 use Rattle.felm_engine.proofs.OverLists.{asyncs-zero, over-more, length-with_async, inner_read, inner_within}
 use Rattle.felm_engine.proofs.lists.Asyncs.of.Goals as goal
 

@@ -1,4 +1,4 @@
-use Rattle.std.proofs.Common.{◌≡◌, ℕ, ◌<◌, [], length}
+use Rattle.std.proofs.Common.{◌≡◌, ℕ, [], length}
 use Rattle.felm_engine.specs.Queued.{queue_at}
 use Rattle.felm_engine.proofs.waiting.Waiting.make.Given as goal
 

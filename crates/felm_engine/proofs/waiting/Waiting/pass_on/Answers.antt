@@ -1,4 +1,4 @@
-use Rattle.std.proofs.Common.{sym, subst, List}
+use Rattle.std.proofs.Common.{sym, subst}
 use Rattle.felm_term.specs.declared.message.Message.{Message}
 use Rattle.felm_engine.specs.Queued.{PassedOn}
 use Rattle.felm_engine.proofs.Queuing.{passed_on}
