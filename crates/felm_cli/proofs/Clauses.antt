@@ -7,16 +7,14 @@ use Rattle.felm_meaning.specs.declared.history.RunEnd.{RunEnd}
 use Rattle.felm_meaning.specs.declared.history.RunEnd.TheVariants.{Complete, Stopped, Full}
 use Rattle.felm_printer.specs.declared.status.Status.{Status}
 use Rattle.felm_printer.specs.declared.status.Status.TheVariants.{Success, Usage, Read, TooLong, Syntax, Typing, Script, Stage, Turn, Journal, Write, Memory}
-use Rattle.felm_printer.specs.declared.status.SyntaxCause.{SyntaxCause}
-use Rattle.felm_printer.specs.declared.status.SyntaxCause.TheVariants.{NoToken, Wide, Grammar, Depth, Twice}
 use Rattle.felm_printer.specs.declared.status.Which.{Which}
 use Rattle.felm_printer.specs.declared.status.Which.TheVariants as which
+use Rattle.felm_plans.specs.Plans.{is_short}
+use Rattle.felm_plans.proofs.Graphs.{plan_keeps}
 use Rattle.felm_cli.specs.Words.{OrderValue, Sync, Graph, file_of}
-use Rattle.felm_cli.specs.Plans.{is_short, AreFaulty}
-use Rattle.felm_cli.specs.Ends.{EndsWith, IsTextOfEnd, LeavesText}
+use Rattle.felm_cli.specs.Ends.{AreFaulty, EndsWith, IsTextOfEnd, LeavesText}
 use Rattle.felm_cli.specs.Outcomes.{OfOrder, OfShort, IsTooLong, HaveEnd, HavePrefix, OrderOutcome, WordsOutcome}
-use Rattle.felm_cli.specs.Promises.{HaveResult, HaveStop, HaveFull, AreTexts, ComeTo, IsOfTokens, IsOneFault, IsOneWith, Answers, LackDefault, CanBeDone}
-use Rattle.felm_cli.proofs.Graphs.{plan_keeps}
+use Rattle.felm_cli.specs.Promises.{HaveResult, HaveStop, HaveFull, AreTexts, ComeTo, Answers, LackDefault, CanBeDone}
 use Rattle.felm_cli.proofs.RunEnds.{complete_run, stopped_run, full_run, default_stops, run_completes}
 use Rattle.felm_cli.proofs.Outcomes.{further}
 use Rattle.felm_cli.proofs.Exact.{one_end}
@@ -111,43 +109,6 @@ end_comes order (Stage cause) text program script s h l = absurd l
 end_comes order Write text program script s h l = absurd l
 end_comes order Memory text program script s h l = absurd l
 
--- a fault of the program's text leaves none
-of_tokens : (end : Status) → IsOfTokens end → ¬ LeavesText end
-of_tokens Success o l = o
-of_tokens (Turn node position) o l = o
-of_tokens Journal o l = o
-of_tokens Usage o l = l
-of_tokens (Read w) o l = l
-of_tokens (TooLong w) o l = l
-of_tokens (Syntax cause at) o l = l
-of_tokens (Typing cause at) o l = l
-of_tokens (Script cause line) o l = l
-of_tokens (Stage cause) o l = l
-of_tokens Write o l = l
-of_tokens Memory o l = l
-
-no_text : (cause : SyntaxCause) (at : ℕ) (end : Status) → IsOneFault cause at end → ¬ LeavesText end
-no_text NoToken at end o l = subst LeavesText o l
-no_text Wide at end o l = subst LeavesText o l
-no_text Grammar at end o l = of_tokens end o l
-no_text Depth at end o l = of_tokens end o l
-no_text Twice at end o l = of_tokens end o l
-
--- where the one leaves a text, so does one that is the same
-leaves_too : (expected end : Status) → IsOneWith expected end → LeavesText end → LeavesText expected
-leaves_too Success end o l = tt
-leaves_too (Turn node position) end o l = tt
-leaves_too Journal end o l = tt
-leaves_too Usage end o l = subst LeavesText o l
-leaves_too (Read w) end o l = subst LeavesText o l
-leaves_too (TooLong w) end o l = subst LeavesText o l
-leaves_too (Typing cause at) end o l = subst LeavesText o l
-leaves_too (Script cause line) end o l = subst LeavesText o l
-leaves_too (Stage cause) end o l = subst LeavesText o l
-leaves_too Write end o l = subst LeavesText o l
-leaves_too Memory end o l = subst LeavesText o l
-leaves_too (Syntax cause at) end o l = absurd (no_text cause at end o l)
-
 module _ (bytes : List ℕ → Option (List ℕ)) (counts counts' : List ℕ → ℕ) (out out' : Option (List ℕ)) (faults faults' short short' : ℕ) where
   -- ---- exactness
 
@@ -157,34 +118,33 @@ module _ (bytes : List ℕ → Option (List ℕ)) (counts counts' : List ℕ →
         → Answers expected status
     answers expected Success c h =
         let at = at_texts bytes order program script (HaveEnd order out out' Success) texts h.0 in
-        one_end order program script expected Success c (at.0, at.1, (at.2.0, at.2.1))
+        one_end order program script Success expected (at.0, at.1, (at.2.0, at.2.1)) c
     answers expected (Turn node position) c h =
         let at = at_texts bytes order program script (HaveEnd order out out' (Turn node position)) texts h.0 in
-        one_end order program script expected (Turn node position) c (at.0, at.1, (at.2.0, at.2.1))
+        one_end order program script (Turn node position) expected (at.0, at.1, (at.2.0, at.2.1)) c
     answers expected Journal c h =
         let at = at_texts bytes order program script (HaveEnd order out out' Journal) texts h.0 in
-        one_end order program script expected Journal c (at.0, at.1, (at.2.0, at.2.1))
+        one_end order program script Journal expected (at.0, at.1, (at.2.0, at.2.1)) c
     answers expected Write c h =
         let at = at_texts bytes order program script (HavePrefix order out out') texts h.0 in
         let leaves = ends_leave order at.2.0 at.2.1 program script at.2.2 in
-        leaves_too expected at.2.0
-        (one_end order program script expected at.2.0 c (end_comes order at.2.0 at.2.1 program script (at.0, at.1) at.2.2 leaves)) leaves
+        subst LeavesText (one_end order program script at.2.0 expected (end_comes order at.2.0 at.2.1 program script (at.0, at.1) at.2.2 leaves) c) leaves
     answers expected Memory c h = tt
     answers expected (Read w) c h = tt
     answers expected Usage c h = absurd h.0
-    answers expected (TooLong w) c h = one_end order program script expected (TooLong w) c (too_long_comes bytes order program script w texts h.0)
+    answers expected (TooLong w) c h = one_end order program script (TooLong w) expected (too_long_comes bytes order program script w texts h.0) c
     answers expected (Syntax cause at) c h =
-        one_end order program script expected (Syntax cause at) c
-        (at_texts bytes order program script (λ a b. AreFaulty order a b (Syntax cause at)) texts h.0)
+        one_end order program script (Syntax cause at) expected
+        (at_texts bytes order program script (λ a b. AreFaulty order a b (Syntax cause at)) texts h.0) c
     answers expected (Typing cause at) c h =
-        one_end order program script expected (Typing cause at) c
-        (at_texts bytes order program script (λ a b. AreFaulty order a b (Typing cause at)) texts h.0)
+        one_end order program script (Typing cause at) expected
+        (at_texts bytes order program script (λ a b. AreFaulty order a b (Typing cause at)) texts h.0) c
     answers expected (Script cause line) c h =
-        one_end order program script expected (Script cause line) c
-        (at_texts bytes order program script (λ a b. AreFaulty order a b (Script cause line)) texts h.0)
+        one_end order program script (Script cause line) expected
+        (at_texts bytes order program script (λ a b. AreFaulty order a b (Script cause line)) texts h.0) c
     answers expected (Stage cause) c h =
-        one_end order program script expected (Stage cause) c
-        (at_texts bytes order program script (λ a b. AreFaulty order a b (Stage cause)) texts h.0)
+        one_end order program script (Stage cause) expected
+        (at_texts bytes order program script (λ a b. AreFaulty order a b (Stage cause)) texts h.0) c
 
     -- texts that can be done come to success
     done_comes : CanBeDone order program script → ComeTo order program script Success

@@ -14,14 +14,14 @@ use Rattle.felm_printer.specs.declared.status.TypingCause.TheVariants.{Untyped, 
 use Rattle.felm_printer.specs.declared.status.ScriptCause.{ScriptCause}
 use Rattle.felm_printer.specs.declared.status.ScriptCause.TheVariants.{Line, Name, Literal}
 use Rattle.felm_printer.specs.declared.status.StageCause.{StageCause}
+use Rattle.felm_plans.specs.Faults.{IsSyntaxFault, IsTypingFault, type_fault, script_fault}
+use Rattle.felm_plans.specs.Plans.{Planned, is_short, IsTypedText, IsUnstaged}
+use Rattle.felm_plans.proofs.Refusals.{one_text, one_fault, faulty_texts, faulty_programs}
+use Rattle.felm_plans.proofs.Graphs.{one_plan, one_stage_fault, staged_or_not}
 use Rattle.felm_cli.specs.Words.{OrderValue, Sync, Graph}
-use Rattle.felm_cli.specs.Faults.{IsSyntaxFault, IsTypingFault, type_fault, script_fault}
-use Rattle.felm_cli.specs.Plans.{Planned, is_short, IsTypedText, IsUnstaged, AreFaulty}
-use Rattle.felm_cli.specs.Ends.{EndsWith, RunEnds}
-use Rattle.felm_cli.specs.Promises.{CanEnd, ComeTo, IsOneFault}
+use Rattle.felm_cli.specs.Ends.{AreFaulty, EndsWith, RunEnds}
+use Rattle.felm_cli.specs.Promises.{CanEnd, ComeTo}
 use Rattle.felm_cli.specs.Laws.{TextsComeToOneEnd}
-use Rattle.felm_cli.proofs.Refusals.{one_text, one_fault, faulty_texts, faulty_programs}
-use Rattle.felm_cli.proofs.Graphs.{one_plan, one_stage_fault, staged_or_not}
 use Rattle.felm_cli.proofs.RunEnds.{one_run_end}
 
 -- ---- faults of a text by their cause and place
@@ -315,12 +315,12 @@ module _ (order : OrderValue) (program script : List ℕ) where
   typing_alone cause at (Script c m) h k = absurd (sound_typing cause at (typed (Script c m) k tt) h)
   typing_alone cause at (Stage c) h k = absurd (sound_typing cause at (typed (Stage c) k tt) h)
 
-  -- nor a fault of the program's text, but with another cause or place
+  -- nor a fault of the program's text
   syntax_alone : (cause : SyntaxCause) (at : ℕ) (status : Status) → ComeTo order program script (Syntax cause at) → ComeTo order program script status
-      → IsOneFault cause at status
+      → status ≡ Syntax cause at
   syntax_alone cause at (Syntax c m) h k =
-      one_fault program cause c at m (syntax_fault order program script cause at h.2) (syntax_fault order program script c m k.2)
-  syntax_alone cause at (TooLong w) h k = let e = too_long w (Syntax cause at) k h in absurd (cc)
+      one_fault program c cause m at (syntax_fault order program script c m k.2) (syntax_fault order program script cause at h.2)
+  syntax_alone cause at (TooLong w) h k = sym (too_long w (Syntax cause at) k h)
   syntax_alone cause at (Typing c m) h k = absurd (one_or_the_other cause at c m h k)
   syntax_alone cause at Usage h k = absurd (unfaulty_usage order program script k.2)
   syntax_alone cause at (Read w) h k = absurd (unfaulty_read order program script w k.2)
@@ -333,15 +333,15 @@ module _ (order : OrderValue) (program script : List ℕ) where
   syntax_alone cause at (Stage c) h k = absurd (sound_syntax cause at (typed (Stage c) k tt) h)
 
 pub one_end : TextsComeToOneEnd
-one_end order program script (Syntax cause at) other h k = syntax_alone order program script cause at other h k
-one_end order program script (TooLong w) other h k = too_long order program script w other h k
-one_end order program script (Typing cause at) other h k = typing_alone order program script cause at other h k
-one_end order program script (Script cause line) other h k = script_alone order program script cause line other h k
-one_end order program script (Stage cause) other h k = stage_alone order program script cause other h k
-one_end order program script Success other h k = end_alone order program script Success other tt h h k
-one_end order program script (Turn node position) other h k = end_alone order program script (Turn node position) other tt h h k
-one_end order program script Journal other h k = end_alone order program script Journal other tt h h k
-one_end order program script Usage other h k = absurd (unfaulty_usage order program script h.2)
-one_end order program script (Read w) other h k = absurd (unfaulty_read order program script w h.2)
-one_end order program script Write other h k = absurd (unfaulty_write order program script h.2)
-one_end order program script Memory other h k = absurd (unfaulty_memory order program script h.2)
+one_end order program script one (Syntax cause at) h k = syntax_alone order program script cause at one k h
+one_end order program script one (TooLong w) h k = too_long order program script w one k h
+one_end order program script one (Typing cause at) h k = typing_alone order program script cause at one k h
+one_end order program script one (Script cause line) h k = script_alone order program script cause line one k h
+one_end order program script one (Stage cause) h k = stage_alone order program script cause one k h
+one_end order program script one Success h k = end_alone order program script Success one tt k k h
+one_end order program script one (Turn node position) h k = end_alone order program script (Turn node position) one tt k k h
+one_end order program script one Journal h k = end_alone order program script Journal one tt k k h
+one_end order program script one Usage h k = absurd (unfaulty_usage order program script k.2)
+one_end order program script one (Read w) h k = absurd (unfaulty_read order program script w k.2)
+one_end order program script one Write h k = absurd (unfaulty_write order program script k.2)
+one_end order program script one Memory h k = absurd (unfaulty_memory order program script k.2)

@@ -1,8 +1,5 @@
-pub mod Refusals
-pub mod Graphs
 pub mod RunEnds
 pub mod Histories
 pub mod Exact
 pub mod Outcomes
 pub mod Clauses
-pub mod Texts

@@ -12,9 +12,9 @@ use Rattle.felm_printer.specs.declared.status.Status.{Status}
 use Rattle.felm_printer.specs.declared.status.Status.TheVariants.{Success, Usage, Read, TooLong, Syntax, Typing, Script, Stage, Turn, Journal, Write, Memory}
 use Rattle.felm_printer.specs.declared.status.Which.TheVariants as which
 use Rattle.felm_printer.specs.Graphs.{graph_text}
+use Rattle.felm_plans.specs.Plans.{Planned, is_short, HavePlan, HasGraph, IsPlanFault, IsGraphFault, OrMemory}
 use Rattle.felm_cli.specs.Words.{OrderValue, Sync, Graph}
-use Rattle.felm_cli.specs.Plans.{Planned, is_short, HavePlan, HasGraph, IsPlanFault, IsGraphFault, AreFaulty, OrMemory}
-use Rattle.felm_cli.specs.Ends.{RunEnds, EndsWith, LeavesText}
+use Rattle.felm_cli.specs.Ends.{AreFaulty, RunEnds, EndsWith, LeavesText}
 use Rattle.felm_cli.specs.Outcomes.{OfShort, HaveEnd, HavePrefix, HaveText, CountsStay, NoEnd, LoadedOrFault, PutOutcome, OrderOutcome}
 
 -- ---- a text that is loaded

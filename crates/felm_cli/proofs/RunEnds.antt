@@ -23,7 +23,7 @@ use Rattle.felm_printer.specs.declared.result.Closing.TheVariants as closing
 use Rattle.felm_printer.specs.declared.status.Status.{Status}
 use Rattle.felm_printer.specs.declared.status.Status.TheVariants.{Success, Turn, Journal}
 use Rattle.felm_printer.specs.Results.{result_text, stopped_text}
-use Rattle.felm_cli.specs.Plans.{Planned}
+use Rattle.felm_plans.specs.Plans.{Planned}
 use Rattle.felm_cli.specs.Ends.{journal_of, IsTextOfEnd, RunEnds}
 use Rattle.felm_cli.specs.Promises.{AllWithinBudget, JournalSuffices}
 

@@ -1,4 +1,4 @@
--- How an order ends that its texts have a plan or a graph for, and the text of that end.
+-- How an order ends: why its texts have no plan or graph, or how it ends where they do, and the text of that end.
 use Rattle.std.specs.Prelude.{◌≡◌, ℕ, ⊤, List}
 use Rattle.felm_term.specs.declared.event.Event.{Event}
 use Rattle.felm_term.specs.declared.limits.Limits.{Limits}
@@ -12,8 +12,13 @@ use Rattle.felm_printer.specs.declared.status.Status.{Status}
 use Rattle.felm_printer.specs.declared.status.Status.TheVariants.{Success, Turn, Journal}
 use Rattle.felm_printer.specs.Results.{result_text, stopped_text}
 use Rattle.felm_printer.specs.Graphs.{graph_text}
+use Rattle.felm_plans.specs.Plans.{Planned, HavePlan, HasGraph, IsGraphFault, IsPlanFault}
 use Rattle.felm_cli.specs.Words.{OrderValue, Sync, Graph}
-use Rattle.felm_cli.specs.Plans.{Planned, HavePlan, HasGraph}
+
+-- why the texts of an order have no plan, or no graph, once their lengths are judged
+abbrev pub AreFaulty : OrderValue → List ℕ → List ℕ → Status → Type 0
+AreFaulty (Sync p s limits) program script status = IsPlanFault limits.stage_steps program script status
+AreFaulty (Graph p limits) program script status = IsGraphFault limits.stage_steps program status
 
 -- the journal of a plan on one thread
 abbrev pub journal_of : Limits → Planned → List Event

@@ -1,56 +1,10 @@
--- What the laws of this crate say.
-use Rattle.std.specs.Prelude.{◌≡◌, ◌⊎◌, ℕ, List}
-use Rattle.felm_term.specs.declared.event.Event.{Event}
-use Rattle.felm_syntax.specs.ProgramText.{IsProgramText}
-use Rattle.felm_syntax.specs.declared.program.Program.{Program}
-use Rattle.felm_types.specs.Typed.{IsTyped}
-use Rattle.felm_graph.specs.GraphValue.{GraphValue}
-use Rattle.felm_meaning.specs.Journals.{IsLegal}
-use Rattle.felm_printer.specs.declared.result.Closing.{Closing}
+-- What the law of this crate says.
+use Rattle.std.specs.Prelude.{ℕ, List}
 use Rattle.felm_printer.specs.declared.status.Status.{Status}
-use Rattle.felm_printer.specs.declared.status.SyntaxCause.{SyntaxCause}
-use Rattle.felm_printer.specs.declared.status.TypingCause.{TypingCause}
-use Rattle.felm_printer.specs.Results.{result_text, stopped_text}
 use Rattle.felm_cli.specs.Words.{OrderValue}
-use Rattle.felm_cli.specs.Faults.{IsSyntaxFault, IsTypingFault}
-use Rattle.felm_cli.specs.Plans.{Planned, HavePlan, HasGraph}
-use Rattle.felm_cli.specs.Promises.{ComeTo, IsOneWith}
+use Rattle.felm_cli.specs.Promises.{ComeTo}
 
--- two texts have at most one plan
-abbrev pub OnePlan : Type 0
-OnePlan = (program script : List ℕ) (budget : ℕ) (one other : Planned) → HavePlan program script budget one → HavePlan program script budget other → one ≡ other
-
--- a text has at most one graph
-abbrev pub OneGraph : Type 0
-OneGraph = (program : List ℕ) (budget : ℕ) (one other : GraphValue) → HasGraph program budget one → HasGraph program budget other → one ≡ other
-
--- of a plan of two texts, legal journals with equal result texts are equal, and so are those with equal stopped texts
-abbrev pub TextsNameTheirJournals : Type 0
-TextsNameTheirJournals =
-    (program script : List ℕ) (stage_steps : ℕ) (plan : Planned) (b : ℕ) (one other : List Event) → HavePlan program script stage_steps plan
-    → IsLegal plan.graph b plan.script one → IsLegal plan.graph b plan.script other
-    → ((c d : Closing) → result_text plan.graph b one c ≡ result_text plan.graph b other d → one ≡ other)
-    × ((k p l q : ℕ) → stopped_text plan.graph one k p ≡ stopped_text plan.graph other l q → one ≡ other)
-
--- a text is a program, or it has a fault of its text
-abbrev pub IsProgramOrFaulty : List ℕ → Type 0
-IsProgramOrFaulty text = ((program : Program) × IsProgramText text program) ⊎ ((cause : SyntaxCause) × (at : ℕ) × IsSyntaxFault text cause at)
-
--- each text is one or the other
-abbrev pub TextsAreProgramsOrFaulty : Type 0
-TextsAreProgramsOrFaulty = (text : List ℕ) → IsProgramOrFaulty text
-
--- a text with a fault is no program
-abbrev pub FaultyTextsAreNoPrograms : Type 0
-FaultyTextsAreNoPrograms = (text : List ℕ) (cause : SyntaxCause) (at : ℕ) (program : Program) → IsSyntaxFault text cause at → IsProgramText text program → ⊥
-
--- a program with a fault of types isn't typed
-abbrev pub FaultyProgramsAreUntyped : Type 0
-FaultyProgramsAreUntyped =
-    (text : List ℕ) (cause : TypingCause) (at : ℕ) (program : Program) → IsTypingFault text cause at → IsProgramText text program → IsTyped program → ⊥
-
--- the texts of an order come to at most one status; where the tokens of the program's text are no program, its cause and place may
--- differ
+-- the texts of an order come to at most one status
 abbrev pub TextsComeToOneEnd : Type 0
 TextsComeToOneEnd =
-    (order : OrderValue) (program script : List ℕ) (one other : Status) → ComeTo order program script one → ComeTo order program script other → IsOneWith one other
+    (order : OrderValue) (program script : List ℕ) (one other : Status) → ComeTo order program script one → ComeTo order program script other → one ≡ other

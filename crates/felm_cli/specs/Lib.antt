@@ -1,9 +1,6 @@
 pub mod Words
 pub mod Names
 pub mod Views
-pub mod Status
-pub mod Faults
-pub mod Plans
 pub mod Ends
 pub mod Outcomes
 pub mod Promises

@@ -6,9 +6,9 @@ use Rattle.felm_printer.specs.declared.status.Status.{Status}
 use Rattle.felm_printer.specs.declared.status.Status.TheVariants.{Success, Usage, Read, TooLong, Turn, Journal, Write, Memory}
 use Rattle.felm_printer.specs.declared.status.Which.{Which}
 use Rattle.felm_printer.specs.declared.status.Which.TheVariants.{Program, Script}
+use Rattle.felm_plans.specs.Plans.{is_short}
 use Rattle.felm_cli.specs.Words.{OrderValue, Sync, Graph, file_of}
-use Rattle.felm_cli.specs.Plans.{is_short, AreFaulty}
-use Rattle.felm_cli.specs.Ends.{EndsWith}
+use Rattle.felm_cli.specs.Ends.{AreFaulty, EndsWith}
 
 -- ---- the texts of an order
 

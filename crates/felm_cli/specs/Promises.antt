@@ -9,15 +9,13 @@ use Rattle.felm_meaning.specs.Journals.{IsLegal, IsComplete, IsLeastNone}
 use Rattle.felm_meaning.specs.Ends.{IsStopped, IsOverDefault, IsFull}
 use Rattle.felm_printer.specs.declared.result.Closing.TheVariants as closing
 use Rattle.felm_printer.specs.declared.status.Status.{Status}
-use Rattle.felm_printer.specs.declared.status.Status.TheVariants.{Success, Read, TooLong, Syntax, Turn, Journal, Write, Memory}
-use Rattle.felm_printer.specs.declared.status.SyntaxCause.{SyntaxCause}
-use Rattle.felm_printer.specs.declared.status.SyntaxCause.TheVariants.{NoToken, Wide, Grammar, Depth, Twice}
+use Rattle.felm_printer.specs.declared.status.Status.TheVariants.{Success, Read, TooLong, Turn, Journal, Write, Memory}
 use Rattle.felm_printer.specs.declared.status.Which.TheVariants.{Program, Script}
 use Rattle.felm_printer.specs.Results.{result_text, stopped_text}
 use Rattle.felm_printer.specs.Graphs.{graph_text}
+use Rattle.felm_plans.specs.Plans.{Planned, is_short, HavePlan, HasGraph}
 use Rattle.felm_cli.specs.Words.{OrderValue, Sync, Graph}
-use Rattle.felm_cli.specs.Plans.{Planned, is_short, HavePlan, HasGraph, AreFaulty}
-use Rattle.felm_cli.specs.Ends.{EndsWith, LeavesText, journal_of}
+use Rattle.felm_cli.specs.Ends.{AreFaulty, EndsWith, LeavesText, journal_of}
 
 -- ---- success
 
@@ -71,30 +69,12 @@ ComeTo order program script (Turn node position) = CanEnd order program script (
 ComeTo order program script Journal = CanEnd order program script Journal
 ComeTo order program script status = (is_short program ≡ true) × (is_short script ≡ true) × AreFaulty order program script status
 
--- a fault of a text whose tokens are no program
-abbrev pub IsOfTokens : Status → Type 0
-IsOfTokens (Syntax Grammar at) = ⊤
-IsOfTokens (Syntax Depth at) = ⊤
-IsOfTokens (Syntax Twice at) = ⊤
-IsOfTokens _ = ⊥
-
--- the same fault of the program's text; where its tokens are no program, the cause among these and the place may differ
-abbrev pub IsOneFault : SyntaxCause → ℕ → Status → Type 0
-IsOneFault NoToken at status = status ≡ Syntax NoToken at
-IsOneFault Wide at status = status ≡ Syntax Wide at
-IsOneFault _ at status = IsOfTokens status
-
--- the same status, or the same fault of the program's text
-abbrev pub IsOneWith : Status → Status → Type 0
-IsOneWith (Syntax cause at) status = IsOneFault cause at status
-IsOneWith expected status = status ≡ expected
-
 -- the status is the expected one, unless a load failed, a put of its text failed, or there was no memory
 abbrev pub Answers : Status → Status → Type 0
 Answers expected (Read which) = ⊤
 Answers expected Write = LeavesText expected
 Answers expected Memory = ⊤
-Answers expected status = IsOneWith expected status
+Answers expected status = status ≡ expected
 
 -- the texts have a plan, and this is its least node without a default
 abbrev pub LackDefault : OrderValue → List ℕ → List ℕ → ℕ → Type 0

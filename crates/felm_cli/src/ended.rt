@@ -1,6 +1,6 @@
 //! What an order leaves once its texts are read.
 ghost use Rattle.std.specs.Prelude.{◌≡◌, IfOk};
-ghost use Rattle.felm_cli.specs.Plans.{planned};
+ghost use Rattle.felm_plans.specs.Plans.{planned};
 ghost use Rattle.felm_printer.specs.Graphs.{graph_text};
 ghost use Rattle.felm_cli.specs.Ends.{RunEnds, LeavesText};
 

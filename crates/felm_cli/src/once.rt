@@ -10,19 +10,18 @@ ghost use Rattle.felm_printer.specs.declared.status.TypingCause.{TypingCause};
 ghost use Rattle.felm_printer.specs.declared.status.ScriptCause.{ScriptCause};
 ghost use Rattle.felm_printer.specs.declared.status.StageCause.{StageCause};
 ghost use Rattle.felm_printer.specs.Fault.{fault_text, FaultPut};
+ghost use Rattle.felm_plans.specs.Faults.{IsSyntaxFault, IsTypingFault};
 ghost use Rattle.felm_cli.specs.Words.{OrderValue, Sync, Graph, order_of, file_of};
-ghost use Rattle.felm_cli.specs.Faults.{IsSyntaxFault, IsTypingFault};
-ghost use Rattle.felm_cli.specs.Plans.{AreFaulty};
-ghost use Rattle.felm_cli.specs.Ends.{LeavesText};
+ghost use Rattle.felm_cli.specs.Ends.{AreFaulty, LeavesText};
 ghost use Rattle.felm_cli.specs.Outcomes.{OfOrder, OfShort, IsTooLong, HasLongProgram, IsOfLoad, HavePrefix, CountsStay, OnLoaded, OnErrLoaded, OnPut, OnQuiet, OnUnfailed, LoadedOrFault, NoEnd, PutOutcome, OrderOutcome, WordsOutcome, HaveText};
 ghost use Rattle.felm_cli.specs.Promises.{HaveResult, HaveStop, HaveFull, AreTexts, ComeTo, Answers, LackDefault, CanBeDone};
 ghost use Rattle.felm_cli.specs.Names.{file_named, limits_named};
 ghost use Rattle.felm_cli.specs.Views.{order_value};
 
 use crate::ended::{Ended, run_plan, show_graph};
-use crate::plans::{read_graph, read_plan};
 use crate::words::{Order, default_limits, read_words};
 use felm_io::{Files, LoadFail, Sink, SinkFail, put_all};
+use felm_plans::{read_graph, read_plan};
 use felm_printer::{Status, Which, tell};
 use felm_term::Limits;
 use std::alloc::Global;
@@ -79,8 +78,7 @@ pub fn felm_once<F: Files, S: Sink, E: Sink>(
     ensures stage { (cause : StageCause) → result ≡ Status.Stage cause → OfOrder (order_of (map string_bytes words.now))
         (λ order. OfShort (F.bytes files.old) order (λ program script. AreFaulty order program script (Status.Stage cause))) }
 
-    // Each of these comes wherever the texts come to it, and so does success, unless a load or a put failed or there was no memory;
-    // but of a text that is no program the cause and the place may differ.
+    // Each of these comes wherever the texts come to it, and so does success, unless a load or a put failed or there was no memory.
     ensures exact { (order : OrderValue) (program script : List ℕ) (expected : Status) → order_of (map string_bytes words.now) ≡ Some order
         → AreTexts (F.bytes files.old) order program script → ComeTo order program script expected → Answers expected result }
     // A default over budget stops the run before its first event, at the least node without one.

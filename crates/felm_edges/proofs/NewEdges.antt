@@ -1,19 +1,16 @@
 -- The parts of new edges.
-use Rattle.std.proofs.Common.{◌≡◌, ℕ, zero, suc, ◌<◌, ◌≤◌, List, [], ◌∷◌, ◌++◌, ◌+◌, take, length, map, get_or, Option, Some, None, refl, sym, ap, ◌∙◌, subst, arith}
-use Rattle.std.specs.List.{slice_get}
+use Rattle.std.proofs.Common.{◌≡◌, ℕ, zero, suc, ◌<◌, ◌≤◌, List, [], ◌∷◌, ◌++◌, ◌+◌, take, length, map, get_or, refl, sym, ap, ◌∙◌, subst, arith}
 use Rattle.std.proofs.lemmas.Bool.{false≢true}
 use Rattle.std.proofs.lemmas.List.{length-map, map_more}
-use Rattle.std.proofs.lemmas.Option.{none-some}
-use Rattle.felm_term.specs.declared.message.Message.{Message}
 use Rattle.felm_graph.specs.declared.node.Node.{Node}
 use Rattle.felm_graph.specs.GraphValue.{GraphValue}
 use Rattle.felm_graph.specs.Graphs.{IsGraph}
 use Rattle.felm_graph.specs.Nodes.{arguments_of}
-use Rattle.felm_edges.specs.EdgesValue.{wiring_of, IsWired, edge_in, prepared_in}
+use Rattle.felm_edges.specs.EdgesValue.{wiring_of, IsWired}
 use Rattle.felm_edges.specs.Changes.{AreNew}
-use Rattle.felm_edges.specs.Parts.{EdgeValue, OutletValue, new_edge, new_outlet, row_of, edge_of, sources_of, prepared_of}
+use Rattle.felm_edges.specs.Parts.{EdgeValue, OutletValue, new_edge, new_outlet, row_of, edge_of, sources_of}
 use Rattle.felm_edges.specs.Readers.{AreReaders, readers_of}
-use Rattle.felm_edges.specs.Inside.{edges_from, IsWithin, IsStocked, GoTogether}
+use Rattle.felm_edges.specs.Inside.{edges_from, IsStocked, GoTogether}
 use Rattle.felm_edges.specs.declared.readers.Reader.{Reader}
 use Rattle.felm_edges.proofs.Rows.{get_or_mapped, messages_at, node_there}
 use Rattle.felm_edges.proofs.Reading.{wired_there, prepared_at}

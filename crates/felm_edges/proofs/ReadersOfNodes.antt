@@ -1,11 +1,11 @@
 -- Readers that are listed port by port.
-use Rattle.std.proofs.Common.{◌≡◌, ◌≢◌, ℕ, zero, suc, ◌+◌, ◌<◌, ◌≤◌, ◌⊎◌, inl, inr, List, [], ◌∷◌, ◌++◌, length, set, replicate, get_or, Option, Some, refl, sym, ap, ◌∙◌, subst, arith}
+use Rattle.std.proofs.Common.{◌≡◌, ◌≢◌, ℕ, zero, suc, ◌+◌, ◌<◌, ◌≤◌, ◌⊎◌, inl, inr, List, [], ◌∷◌, ◌++◌, length, set, replicate, get_or, Some, refl, sym, ap, ◌∙◌, subst, arith}
 use Rattle.std.specs.List.{slice_get}
 use Rattle.std.proofs.lemmas.Bool.{cases_eq, cases_lt}
 use Rattle.std.proofs.lemmas.List.{length-set, length-replicate, get_or-set_same, get_or-set_other, get_or_past}
 use Rattle.std.proofs.lemmas.Option.{none-some, slice_get_within}
 use Rattle.felm_edges.specs.EdgesValue.{IsWired}
-use Rattle.felm_edges.specs.Readers.{AreReaders, AreReadersBefore, readers_of, StandsAt, AllOnce, IsBefore}
+use Rattle.felm_edges.specs.Readers.{AreReaders, AreReadersBefore, readers_of, StandsAt, IsBefore}
 use Rattle.felm_edges.specs.declared.readers.Reader.{Reader}
 
 -- ---- one more in a list

@@ -1,14 +1,14 @@
 -- What is read off the parts of edges.
-use Rattle.std.proofs.Common.{◌≡◌, ℕ, ◌+◌, ◌<◌, ◌≤◌, ◌⊎◌, inl, inr, List, [], length, map, get_or, Option, Some, None, refl, sym, ap, ◌∙◌, subst, arith}
+use Rattle.std.proofs.Common.{◌≡◌, ℕ, ◌<◌, ◌≤◌, ◌⊎◌, inl, inr, List, [], length, map, get_or, Some, None, sym, ap, ◌∙◌, subst, arith}
 use Rattle.std.specs.List.{slice_get, All}
 use Rattle.std.proofs.lemmas.Bool.{cases_lt}
 use Rattle.std.proofs.lemmas.List.{length-map, get_or_past, get_or_read, get_or_default}
 use Rattle.std.proofs.lemmas.Option.{slice_get_within, get_or_from_slice_get, slice_get-get_or}
 use Rattle.felm_term.specs.declared.message.Message.{Message}
-use Rattle.felm_edges.specs.EdgesValue.{EdgesValue, IsWired, read_in, edge_in, prepared_in, HasRoomIn, IsFedIn, AreEdges}
+use Rattle.felm_edges.specs.EdgesValue.{EdgesValue, IsWired, read_in, edge_in, HasRoomIn, IsFedIn, AreEdges}
 use Rattle.felm_edges.specs.Parts.{EdgeValue, OutletValue, no_edge, new_outlet, row_of, edge_of, sources_of, messages_of, prepared_of, IsThere, HasPlace, HasPlaceAt, HasMessage}
-use Rattle.felm_edges.specs.Readers.{AreReaders, readers_of, StandsAt}
-use Rattle.felm_edges.specs.Inside.{edges_from, IsWithin, GoTogether}
+use Rattle.felm_edges.specs.Readers.{AreReaders, readers_of}
+use Rattle.felm_edges.specs.Inside.{edges_from, GoTogether}
 use Rattle.felm_edges.specs.declared.readers.Reader.{Reader}
 use Rattle.felm_edges.proofs.Rows.{get_or_mapped, sources_at, messages_at, node_there}
 

@@ -1,5 +1,5 @@
 -- What the writing calls do to the parts of edges.
-use Rattle.std.proofs.Common.{◌≡◌, ◌≢◌, ℕ, ◌+◌, ◌<◌, ◌≤◌, ◌⊎◌, inl, inr, Bool, true, false, List, [], ◌∷◌, ◌++◌, length, map, drop, set, get_or, Option, Some, None, Result, Ok, Err, refl, sym, ap, ◌∙◌, subst, arith, IsSome, OnOk, OnErr, length-append, length-drop, Vec, Global}
+use Rattle.std.proofs.Common.{◌≡◌, ℕ, ◌<◌, ◌≤◌, ◌⊎◌, inl, inr, List, [], ◌∷◌, ◌++◌, length, map, drop, set, get_or, Option, Some, None, Result, Ok, Err, refl, sym, ap, ◌∙◌, subst, arith, IsSome, OnOk, OnErr, length-append, length-drop, Vec, Global}
 use Rattle.std.specs.List.{slice_get}
 use Rattle.std.proofs.lemmas.Bool.{cases_eq, cases_lt, false≢true}
 use Rattle.std.proofs.lemmas.List.{length-map, length-set, map-set, set-get_or, get_or-set_same, get_or-set_other, get_or_read, get_or_past, with_items_is}
@@ -7,7 +7,7 @@ use Rattle.std.specs.Vec.{with_items}
 use Rattle.felm_term.specs.declared.message.Message.{Message}
 use Rattle.felm_edges.specs.EdgesValue.{EdgesValue, IsWired, ReadsIn, edge_in, prepared_in, HasRoomIn}
 use Rattle.felm_edges.specs.Changes.{PreparedFrom, PutFrom, DroppedFrom}
-use Rattle.felm_edges.specs.Parts.{EdgeValue, OutletValue, no_edge, new_outlet, row_of, edge_of, sources_of, messages_of, prepared_of, with_message, without_first, changed_at_each}
+use Rattle.felm_edges.specs.Parts.{EdgeValue, OutletValue, no_edge, new_outlet, row_of, edge_of, sources_of, prepared_of, with_message, without_first, changed_at_each}
 use Rattle.felm_edges.specs.Readers.{AreReaders, readers_of}
 use Rattle.felm_edges.specs.Inside.{edges_from, IsWithin, IsStocked, GoTogether}
 use Rattle.felm_edges.specs.declared.readers.Reader.{Reader}

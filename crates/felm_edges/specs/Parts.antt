@@ -1,5 +1,5 @@
 -- The parts that edges are made of.
-use Rattle.std.specs.Prelude.{◌≡◌, ℕ, ◌<◌, List, [], ◌∷◌, ◌++◌, Option, Some, None, length, map, drop, slice_index_or, slice_set}
+use Rattle.std.specs.Prelude.{ℕ, ◌<◌, List, [], ◌∷◌, ◌++◌, Option, Some, None, length, map, drop, slice_index_or, slice_set}
 use Rattle.felm_term.specs.declared.message.Message.{Message}
 use Rattle.felm_edges.specs.declared.readers.Reader.{Reader}
 

@@ -8,7 +8,5 @@ mod making;
 mod outlet;
 mod ports;
 mod readers;
-#[cfg(test)]
-mod tests;
 
 pub use edges::Edges;

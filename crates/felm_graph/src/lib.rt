@@ -9,8 +9,6 @@ mod lay;
 mod node;
 mod pair;
 mod reading;
-#[cfg(test)]
-mod tests;
 mod typed;
 
 pub use arguments::Arguments;

@@ -1,8 +1,10 @@
 -- What the code knows of a call that it reduces.
-use Rattle.std.proofs.Common.{◌≡◌, ℕ, suc, ◌+◌, ◌≤◌, Option, Some, None, List, [], ◌∷◌, ◌++◌, length, map, take, refl, sym, ap, ◌∙◌, subst, arith}
-use Rattle.std.specs.List.{slice_get}
+use Rattle.std.proofs.Common.{◌≡◌, ℕ, suc, ◌+◌, ◌≤◌, Bool, true, false, ◌||◌, Option, Some, None, List, [], ◌∷◌, ◌++◌, length, map, take, get_or, refl, sym, ap, ◌∙◌, subst, arith}
+use Rattle.std.specs.List.{slice_get, list_any}
 use Rattle.std.specs.Option.{option_map}
 use Rattle.std.proofs.lemmas.List.{map-append}
+use Rattle.std.proofs.lemmas.List.Folds.{list_any_at, list_any_more}
+use Rattle.std.proofs.lemmas.Option.{get_or_from_slice_get, same_Some, slice_get_within}
 use Rattle.felm_term.specs.CoreTerm.{CoreTerm, CoreTerms, Int, Var, Lam, App, Bin, If, Let, Input, Node, Lift, Foldp, Async}
 use Rattle.felm_term.specs.CoreTerm as term
 use Rattle.felm_term.specs.Typing.{HasSimpleType, IsFunction}
@@ -19,7 +21,7 @@ use Rattle.felm_graph.specs.Layout.{value_in}
 use Rattle.felm_meaning.specs.declared.job.Job.{Job}
 use Rattle.felm_meaning.specs.declared.job.Job.TheVariants as job
 use Rattle.felm_meaning.specs.Step.{call_value, lift_step, foldp_step, step}
-use Rattle.felm_meaning.specs.Types.{IsCallable}
+use Rattle.felm_meaning.specs.Types.{IsCallable, TurnFits}
 use Rattle.felm_meaning.specs.Turns.{TurnValue}
 use Rattle.felm_meaning.proofs.Rows.{take_all}
 use Rattle.felm_meaning.proofs.Plain.{take-more}
@@ -88,6 +90,19 @@ pub call_is : (f : Value) (values : List Value) (b : ℕ) (e : CoreTerm) → e �
 unfolding call_value
 call_is f values b e q = ap (λ (t : CoreTerm). option_map value_in (value_within b t)) q
 
+-- ---- arguments
+
+module _ {X : Type 0} (p : X → Bool) (xs : List X) (i : ℕ) where
+  -- one that passes a test
+  pub any_here : (x : X) → slice_get xs i ≡ Some x → p x ≡ true → list_any p xs ≡ true
+  any_here x here h = list_any_at p xs i x (slice_get_within xs i x here) (ap p (get_or_from_slice_get xs i x x here) ∙ h)
+
+  -- one more that fails it
+  pub none_more : (x : X) → slice_get xs i ≡ Some x → list_any p (take i xs) ≡ false → p x ≡ false → list_any p (take (i + 1) xs) ≡ false
+  none_more x here b h =
+      list_any_more p xs i x (slice_get_within xs i x here) ∙
+      (ap (λ (t : Bool). t || p (get_or xs i x)) b ∙ (ap p (get_or_from_slice_get xs i x x here) ∙ h))
+
 -- ---- jobs
 
 pub lift_steps : (t : TurnValue) (w : Job) (f old : Value) (inputs : List Message) (b : ℕ) → w ≡ t.job → w ≡ job.Lift f → old ≡ t.previous
@@ -99,3 +114,10 @@ pub foldp_steps : (t : TurnValue) (w : Job) (f old : Value) (inputs : List Messa
     → inputs ≡ t.inputs → b ≡ t.budget → foldp_step f old inputs b ≡ step t.job t.previous t.inputs t.budget
 unfolding step
 foldp_steps t w f old inputs b j l o i u = let e : t.job ≡ job.Foldp f = sym j ∙ l in rw (e, ← o, ← i, ← u) refl
+
+-- a foldp's turn has one message
+pub one_input : (w : Job) (f old : Value) (ms : List Message) (m : Message) → TurnFits w old ms → w ≡ job.Foldp f → slice_get ms 0 ≡ Some m → m ∷ [] ≡ ms
+one_input w f old ms m h q e =
+    let t : TurnFits (job.Foldp f) old ms = subst (λ (x : Job). TurnFits x old ms) q h in
+    let s : m ≡ t.called.0 = same_Some m t.called.0 (sym e ∙ ap (λ (xs : List Message). slice_get xs 0) t.called.1) in
+    ap (λ (x : Message). x ∷ []) s ∙ sym t.called.1

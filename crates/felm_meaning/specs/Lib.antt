@@ -9,6 +9,7 @@ pub mod Laws
 pub mod Instances
 pub mod Turns
 pub mod TurnInside
+pub mod Steps
 pub mod Outcomes
 pub mod DoneInside
 pub mod PlanValue

@@ -7,6 +7,7 @@ use Rattle.felm_meaning.specs.Meaning.{msg, val, changes, sends, edge}
 use Rattle.felm_meaning.specs.Journals.{IsCaused, IsLegal, IsComplete, waiting, next, plain_journal}
 use Rattle.felm_meaning.specs.Ends.{IsOver, IsStopped, IsFull}
 use Rattle.felm_meaning.specs.Laws.{DefaultsThere}
+use Rattle.felm_meaning.specs.Words.{CameNext}
 use Rattle.felm_meaning.specs.PlanValue.{PlanValue}
 
 -- ---- the meaning
@@ -54,6 +55,10 @@ waiting_for plan j a = waiting plan.graph plan.budget j a
 -- what comes next on one thread
 abbrev pub next_for : PlanValue → List Event → Option Event
 next_for plan j = next plan.graph plan.budget plan.script j
+
+-- each event came next, below the limit
+abbrev pub CameNextFor : PlanValue → List Event → Type 0
+CameNextFor plan j = CameNext plan.graph plan.budget plan.script plan.limit j
 
 -- the journal of a run on one thread
 abbrev pub plain_journal_for : PlanValue → List Event

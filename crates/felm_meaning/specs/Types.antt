@@ -40,7 +40,3 @@ pub record TurnFits (job : Job) (previous : Value) (inputs : List Message) : Typ
 -- the call of a function on these values may be reduced: it has a simple type
 abbrev pub IsCallable : Value → List Value → Type 0
 IsCallable f values = (r : CoreType) × IsTrue (is_simple r) × CallFits f values r
-
--- the same of a job's call at a turn
-abbrev pub JobIsCallable : Job → Value → List Message → Type 0
-JobIsCallable w old messages = (r : CoreType) × IsTrue (is_simple r) × JobFits w old messages r

@@ -8,25 +8,27 @@ ghost use Rattle.felm_laws.specs.Calls.{value_within};
 ghost use Rattle.felm_graph.specs.Layout.{value_in};
 ghost use Rattle.felm_meaning.specs.Step.{call_value};
 ghost use Rattle.felm_meaning.specs.Types.{IsCallable};
-ghost use Rattle.felm_meaning.specs.Values.{values_at, messages_at};
+ghost use Rattle.felm_meaning.specs.Values.{values_at};
 
+use crate::arguments::Arguments;
 use felm_reduce::{Reduced, reduce};
 use felm_term::{Memory, Message, Term, TermForm, Value, boxed};
 use std::alloc::Global;
 
-/// The value of a call on the values in these messages, or none where it takes more steps than the budget.
-pub fn call_on_messages(
+/// The value of a call on the values of these arguments, or none where it takes more steps than the
+/// budget.
+pub fn call_on_arguments<A: Arguments>(
     alloc: Global,
     function: &Value,
-    messages: &[Message],
+    arguments: &A,
     budget: u64,
 ) -> Result<Option<Value>, Memory>
-    requires { IsCallable function.now (map value_of messages.now) }
-    ensures { IfOk result (λ value. value ≡ call_value function.now (map value_of messages.now) budget) }
+    requires { IsCallable function.now (map value_of (A.messages arguments.now)) }
+    ensures { IfOk result (λ value. value ≡ call_value function.now (map value_of (A.messages arguments.now)) budget) }
 {
     let mut application = function.to_term(alloc)?;
-    for message in messages {
-        application = apply(alloc, application, value_of(message))?;
+    for port in 0..arguments.count() {
+        application = apply(alloc, application, value_of(arguments.message(port)))?;
     }
     value_within(alloc, application, budget)
 }
@@ -62,26 +64,6 @@ pub fn call_at(
     let mut application = function.to_term(alloc)?;
     for place in places {
         application = apply(alloc, application, &values[*place as usize])?;
-    }
-    value_within(alloc, application, budget)
-}
-
-/// The value of a call on the values in the messages at these places, or none where it takes more
-/// steps than the budget. A call takes its values where they lie, and copies each into one application.
-pub fn call_among(
-    alloc: Global,
-    function: &Value,
-    messages: &[Message],
-    places: &[u32],
-    budget: u64,
-) -> Result<Option<Value>, Memory>
-    requires there { All (λ place. place < length messages.now) places.now }
-    requires callable { IsCallable function.now (map value_of (messages_at messages.now places.now)) }
-    ensures { IfOk result (λ value. value ≡ call_value function.now (map value_of (messages_at messages.now places.now)) budget) }
-{
-    let mut application = function.to_term(alloc)?;
-    for place in places {
-        application = apply(alloc, application, value_of(&messages[*place as usize]))?;
     }
     value_within(alloc, application, budget)
 }

@@ -1,6 +1,7 @@
 //! Plans, turns and the synchronous meaning: what every signal is at every position of a journal.
 #![tactic(auto)]
 
+mod arguments;
 mod call;
 mod copies;
 mod done;
@@ -11,12 +12,11 @@ mod laws;
 mod outcome;
 mod plan;
 mod preset;
-#[cfg(test)]
-mod tests;
+mod step;
 mod turn;
 mod turn_inputs;
 
-pub use call::{call_among, call_on_two};
+pub use arguments::{Among, Arguments};
 pub use done::{Done, compute};
 pub use equality::{equal_jobs, equal_message_lists, equal_messages, equal_values, same_plan};
 pub use history::{History, RunEnd};
@@ -31,5 +31,6 @@ pub use laws::{
 pub use outcome::Outcome;
 pub use plan::Plan;
 pub use preset::{Preset, Values, defaults};
+pub use step::{Step, foldp_step, is_change, lift_step};
 pub use turn::Turn;
 pub use turn_inputs::TurnInputs;

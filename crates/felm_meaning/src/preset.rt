@@ -1,7 +1,8 @@
 ghost use Rattle.std.specs.Prelude.{◌≡◌, IfOk, slice_get};
 ghost use Rattle.std.specs.Option.{option_map};
 ghost use Rattle.felm_meaning.specs.Meaning.{default_by, declared_value};
-ghost use Rattle.felm_meaning.specs.Presets.{IsPreset, IsLiftable};
+ghost use Rattle.felm_meaning.specs.Plans.{plan_of};
+ghost use Rattle.felm_meaning.specs.Presets.{IsPresetFor, IsLiftable};
 
 use crate::call::call_at;
 use crate::plan::Plan;
@@ -23,7 +24,7 @@ pub enum Preset {
 
 /// The value of every node before the first event.
 pub fn defaults(alloc: Global, plan: &Plan) -> Result<Preset, Memory>
-    ensures { IfOk result (IsPreset plan.now.graph plan.now.limits.turn_steps) }
+    ensures { IfOk result (IsPresetFor (plan_of plan.now)) }
 {
     let nodes = plan.graph.nodes();
     let inputs = plan.graph.inputs().as_slice();

@@ -1,5 +1,6 @@
 ghost use Rattle.std.specs.Prelude.{◌≡◌, ◌<◌, ◌≤◌, [], ◌∷◌, ◌++◌, length, Some, slice_get};
 
+use crate::arguments::Arguments;
 use arrayvec::ArrayVec;
 use felm_term::Message;
 use std::marker::Model;
@@ -64,5 +65,17 @@ impl TurnInputs {
         ensures { self.new ≡ self.old ++ item ∷ [] }
     {
         self.items.push(item);
+    }
+}
+
+impl Arguments for TurnInputs {
+    ghost messages = { λ inputs. inputs };
+
+    fn count(&self) -> usize {
+        self.len()
+    }
+
+    fn message(&self, port: usize) -> &Message {
+        self.at(port)
     }
 }

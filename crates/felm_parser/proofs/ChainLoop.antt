@@ -8,7 +8,8 @@ use Rattle.felm_term.specs.declared.op.Op.{Op}
 use Rattle.felm_parser.specs.declared.fault.ParseFault.{ParseFault}
 use Rattle.felm_parser.specs.declared.fault.ParseFault.TheVariants as fault
 use Rattle.felm_parser.specs.Gives.{fault_of, Fails}
-use Rattle.felm_reading.specs.Reading.{Fault, ◌>>=◌, Answer, reads_in, refused, starts_operand, operator_at, part_of, continues, place}
+use Rattle.felm_syntax.specs.FirstFaults.{Fault}
+use Rattle.felm_reading.specs.Reading.{◌>>=◌, Answer, reads_in, refused, starts_operand, operator_at, part_of, continues, place}
 use Rattle.felm_parser.proofs.Steps.{fails, chain_step, chain_full, chain_end}
 
 module _ (text : List ℕ) (room : ℕ) (l : Level) (left : Expression) (ts : List Token) (total : Answer Expression) (same : continues text (reads_in text room) l left ts ≡ total) where

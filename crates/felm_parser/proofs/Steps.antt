@@ -8,7 +8,8 @@ use Rattle.felm_term.specs.declared.op.Op.{Op}
 use Rattle.felm_parser.specs.declared.fault.ParseFault.{ParseFault}
 use Rattle.felm_parser.specs.declared.fault.ParseFault.TheVariants as fault
 use Rattle.felm_parser.specs.Gives.{fault_of, Fails}
-use Rattle.felm_reading.specs.Reading.{Fault, Depth, refused, place, starts_operand, starts_atom, operator_at, ◌>>=◌, Reader, Whole, Right, Arguments, applied, type_in, whole_type, reads_in, expr, applies, part_of, continues, atom}
+use Rattle.felm_syntax.specs.FirstFaults.{Fault, Depth}
+use Rattle.felm_reading.specs.Reading.{refused, place, starts_operand, starts_atom, operator_at, ◌>>=◌, Reader, Whole, Right, Arguments, applied, type_in, whole_type, reads_in, expr, applies, part_of, continues, atom}
 
 -- the fault that reading meets
 pub fails : {Y : Type 0} (e : ParseFault) (f : Fault) (read : Result Y Fault) → fault_of e ≡ Some f → read ≡ Err f → Fails e read

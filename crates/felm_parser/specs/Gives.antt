@@ -1,6 +1,6 @@
 -- What the parser's functions answer, against reading.
 use Rattle.std.specs.Prelude.{◌≡◌, Option, Some, None, Result, Ok, Err}
-use Rattle.felm_reading.specs.Reading.{Fault, Syntax, Depth, Twice}
+use Rattle.felm_syntax.specs.FirstFaults.{Fault, Syntax, Depth, Twice}
 use Rattle.felm_parser.specs.declared.fault.ParseFault.{ParseFault}
 use Rattle.felm_parser.specs.declared.fault.ParseFault.TheVariants as fault
 

@@ -1,12 +1,11 @@
 //! All of the tokens.
-ghost use Rattle.std.specs.Prelude.{◌≡◌, ℕ, ◌+◌, ◌≤◌, [], length, IfOk, IfErr, IfSome, IsErrOf, MatchResult};
+ghost use Rattle.std.specs.Prelude.{◌≡◌, ◌+◌, ◌≤◌, [], length, IfOk, IfErr, IfSome, MatchResult};
 ghost use Rattle.felm_lexer.specs.Readings.{Reads as Tokenizes, Whole};
 ghost use Rattle.felm_syntax.specs.Binders.{binders};
-ghost use Rattle.felm_syntax.specs.ProgramText.{IsProgram};
-ghost use Rattle.felm_parser.specs.Gives.{Gives};
-ghost use Rattle.felm_parser.specs.Refusals.{IsNoProgram, NestsTooDeeply, DeclaresTwice, place_of};
-ghost use Rattle.felm_reading.specs.Places.{IsPlace};
+ghost use Rattle.felm_syntax.specs.FirstFaults.{Fault, IsFirstFault};
+ghost use Rattle.felm_syntax.specs.ProgramText.{IsProgram, nesting_limit};
 ghost use Rattle.felm_reading.specs.Reading.{all_of, main_of, program_after};
+ghost use Rattle.felm_parser.specs.Gives.{Gives, fault_of};
 
 use crate::declarations::declaration;
 use crate::expressions::whole;
@@ -68,11 +67,11 @@ pub fn parse(alloc: Global, text: &[u8], tokens: &[Token]) -> Result<Program, Pa
         → MatchResult result (λ found. found ≡ program) (λ fault. fault ≡ ParseFault.Memory) }
     ensures size { IfOk result (λ program. length program.inputs + binders program.main ≤ length text.now) }
 
-    // Each refusal has its ground, and its place is a token's start or the end of the text.
-    ensures syntax { (at : ℕ) → IsErrOf result (ParseFault.Syntax at) → IsNoProgram text.now tokens.now }
-    ensures depth { (at : ℕ) → IsErrOf result (ParseFault.Depth at) → NestsTooDeeply text.now tokens.now }
-    ensures twice { (at : ℕ) → IsErrOf result (ParseFault.Twice at) → DeclaresTwice text.now tokens.now }
-    ensures place { IfErr result (λ fault. IfSome (place_of fault) (λ at. IsPlace text.now tokens.now at)) }
+    // A refusal is the first fault, and the first fault is refused.
+    ensures fault { IfErr result (λ fault. IfSome (fault_of fault)
+        (λ first. IsFirstFault text.now nesting_limit tokens.now first)) }
+    ensures refuses { (first : Fault) → IsFirstFault text.now nesting_limit tokens.now first
+        → MatchResult result (λ _. ⊥) (λ fault. IfSome (fault_of fault) (λ found. found ≡ first)) }
 {
     program(alloc, text, DEEPEST, tokens)
 }

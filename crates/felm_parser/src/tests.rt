@@ -1,5 +1,5 @@
-use crate::parse;
-use felm_lexer::tokens;
+use crate::{ParseFault, parse};
+use felm_lexer::{LexFault, tokens};
 use felm_syntax::{Expr, Exprs, ExprsForm, Form, Program};
 use felm_term::{Ty, TyForm};
 use std::alloc::{AllocError, Global};
@@ -485,5 +485,47 @@ fn brackets_nest_199_deep(rt: HostRuntime) -> Result<(), Fail> {
         let found = verdict(alloc, text.as_str())?;
         assert_eq!(&rt; found.as_str(), want, "at {count}");
     }
+    Ok(())
+}
+
+/// An ordinary program: a counter page with two buttons and a step field.
+const PAGE: &str = "-- A counter page: two buttons and a step field.
+input up : unit = ()
+input down : unit = ()
+input step : int = 1
+
+main =
+  let size = lift1 (\\n:int. if n < 1 then 1 else n) step in
+  let ups = foldp (\\u:unit.\\c:int. c + 1) 0 up in
+  let downs = foldp (\\u:unit.\\c:int. c + 1) 0 down in
+  let slow = async (lift2 (\\a:int.\\b:int. a - b) ups downs) in
+  lift2 (\\c:int.\\k:int. c * k) slow size
+";
+
+/// The place of a text's fault, if it has one.
+fn fault_place(alloc: Global, text: &[u8]) -> Option<usize> {
+    let tokens = match tokens(alloc, text) {
+        Ok(tokens) => tokens,
+        Err(LexFault::Byte { at }) => return Some(at),
+        Err(LexFault::Wide { at }) => return Some(at),
+        Err(LexFault::Memory) => return None,
+    };
+    match parse(alloc, text, tokens.as_slice()) {
+        Err(ParseFault::Syntax { at }) => Some(at),
+        Err(ParseFault::Depth { at }) => Some(at),
+        Err(ParseFault::Twice { at }) => Some(at),
+        _ => None,
+    }
+}
+
+#[test]
+fn cuts_after_each_byte_are_read_or_refused_within(rt: HostRuntime) -> Result<(), Fail> {
+    let alloc = rt.alloc();
+    let bytes = PAGE.as_bytes();
+    for cut in 0..bytes.len() + 1 {
+        let at = fault_place(alloc, bytes.get(..cut).unwrap_or(b"")).unwrap_or(0);
+        assert!(&rt; at <= cut, "cut at {cut}");
+    }
+    assert!(&rt; fault_place(alloc, bytes).is_none(), "whole");
     Ok(())
 }

@@ -1,6 +1,6 @@
 -- What nodes send one after the other is the meaning's next row.
-use Rattle.std.proofs.Common.{◌≡◌, ℕ, suc, zero, ◌+◌, ◌-◌, ◌<◌, ◌≤◌, Bool, true, false, cond, ◌||◌, Option, Some, None, List, [], ◌∷◌, ◌++◌, length, map, drop, All, get_or, refl, sym, ap, ◌∙◌, subst, arith, add-one, append_assoc}
-use Rattle.std.specs.List.{slice_get, list_any}
+use Rattle.std.proofs.Common.{◌≡◌, ℕ, suc, zero, ◌+◌, ◌-◌, ◌<◌, ◌≤◌, Bool, true, false, cond, Option, Some, None, List, [], ◌∷◌, ◌++◌, length, map, drop, All, get_or, refl, sym, ap, ◌∙◌, subst, arith, add-one, append_assoc}
+use Rattle.std.specs.List.{slice_get}
 use Rattle.std.specs.Option.{option_map_or, option_and_then}
 use Rattle.std.proofs.Math.ListN.{set}
 use Rattle.std.proofs.Math.Seq.{drop-cons, set-append_seam}
@@ -22,7 +22,7 @@ use Rattle.felm_graph.specs.Nodes.{is_source_kind, is_source, arguments_of_kind,
 use Rattle.felm_meaning.specs.declared.job.Job.{Job}
 use Rattle.felm_meaning.specs.declared.job.Job.TheVariants as job
 use Rattle.felm_meaning.specs.Nodes.{job_of_kind, job_of, inner_of_kind}
-use Rattle.felm_meaning.specs.Step.{is_change, call_value, change_of, lift_step, foldp_step, step}
+use Rattle.felm_meaning.specs.Step.{lift_step, foldp_step, step}
 use Rattle.felm_meaning.specs.Meaning.{all_of, at, value_at, source_message, turn_message, message_of, row_to, row, msg, val}
 use Rattle.felm_meaning.specs.Journals.{IsLeastNone}
 use Rattle.felm_meaning.specs.Types.{EventsFit, TurnFits, CallFits, IsCallable}
@@ -75,21 +75,6 @@ own_message k e v s = grind (arith, common_steps)
 
 pub other_message : (k : ℕ) (e : Event) (v : Value) → (e.source ≡ k → ⊥) → Some (NoChange v) ≡ source_message k e (Some v)
 other_message k e v s = grind (arith, common_steps)
-
--- a lift without a change among its arguments
-any_change : (ms : List Message) (places : List ℕ) → list_any is_change (messages_at ms places) ≡ list_any (λ a. is_change (message_at ms a)) places
-any_change ms [] = refl
-any_change ms (a ∷ places) = ap (λ (t : Bool). is_change (message_at ms a) || t) (any_change ms places)
-
-pub lift_stays : (f old : Value) (ms : List Message) (places : List ℕ) (b : ℕ) → list_any (λ a. is_change (message_at ms a)) places ≡ false
-    → Some (NoChange old) ≡ lift_step f old (messages_at ms places) b
-lift_stays f old ms places b h =
-    sym (ap (λ (t : Bool). cond t (change_of (call_value f (map value_of (messages_at ms places)) b)) (Some (NoChange old))) (any_change ms places ∙ h))
-
-pub lift_calls : (f old : Value) (ms : List Message) (places : List ℕ) (b : ℕ) → list_any (λ a. is_change (message_at ms a)) places ≡ true
-    → change_of (call_value f (map value_of (messages_at ms places)) b) ≡ lift_step f old (messages_at ms places) b
-lift_calls f old ms places b h =
-    sym (ap (λ (t : Bool). cond t (change_of (call_value f (map value_of (messages_at ms places)) b)) (Some (NoChange old))) (any_change ms places ∙ h))
 
 -- what a node reads has smaller numbers
 pub reads_below : (nodes : List Node) (k z : ℕ) (n : Node) → IsOrdered nodes → slice_get nodes k ≡ Some n → k ≤ z → All (λ a. a < z) (arguments_of_kind n.kind)

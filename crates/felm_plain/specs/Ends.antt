@@ -7,6 +7,7 @@ use Rattle.felm_meaning.specs.declared.history.RunEnd.{RunEnd}
 use Rattle.felm_meaning.specs.declared.history.RunEnd.TheVariants.{Complete, Stopped, Full}
 use Rattle.felm_meaning.specs.Meaning.{row, val, sends}
 use Rattle.felm_meaning.specs.Journals.{AllThere, IsLeastNone, next, plain_journal}
+use Rattle.felm_meaning.specs.PlanValue.{PlanValue}
 
 -- a journal, with the default and the messages of main over it
 pub record IsHistory (g : GraphValue) (b : ℕ) (j : List Event) (h : History) : Type 0 where
@@ -27,3 +28,7 @@ EndsWith g b script limit j (Full h) =
 -- the end of a run on one thread: its journal is the plain one
 abbrev pub IsEndOf : GraphValue → ℕ → List Event → ℕ → RunEnd → Type 0
 IsEndOf g b script limit end = EndsWith g b script limit (plain_journal g b script limit) end
+
+-- the same of a plan
+abbrev pub IsEndFor : PlanValue → RunEnd → Type 0
+IsEndFor plan end = IsEndOf plan.graph plan.budget plan.script plan.limit end

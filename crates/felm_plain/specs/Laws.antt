@@ -7,10 +7,11 @@ use Rattle.felm_graph.specs.Graphs.{IsGraph}
 use Rattle.felm_meaning.specs.declared.history.History.{History}
 use Rattle.felm_meaning.specs.declared.history.RunEnd.{RunEnd}
 use Rattle.felm_meaning.specs.declared.history.RunEnd.TheVariants.{Complete, Stopped, Full}
-use Rattle.felm_meaning.specs.Meaning.{row, msg, IsThere}
-use Rattle.felm_meaning.specs.Journals.{IsLegal, IsComplete, NamesInputs, AllThere, IsLeastNone, next, plain_journal}
-use Rattle.felm_meaning.specs.Ends.{IsStopped, IsFull}
-use Rattle.felm_plain.specs.Ends.{IsEndOf}
+use Rattle.felm_meaning.specs.Meaning.{row, IsThere}
+use Rattle.felm_meaning.specs.Journals.{NamesInputs, AllThere, IsLeastNone, next}
+use Rattle.felm_meaning.specs.PlanValue.{PlanValue}
+use Rattle.felm_meaning.specs.OfPlans.{msg_for, IsLegalFor, IsCompleteFor, IsStoppedFor, IsFullFor, plain_journal_for}
+use Rattle.felm_plain.specs.Ends.{IsEndFor}
 
 -- ---- one end
 
@@ -30,8 +31,7 @@ SameEnd left right = ⊥
 -- a plan has one end
 abbrev pub OneEnd : Type 0
 OneEnd =
-    (g : GraphValue) (b : ℕ) (script : List Event) (limit : ℕ) (left right : RunEnd) → IsEndOf g b script limit left
-    → IsEndOf g b script limit right → SameEnd left right
+    (plan : PlanValue) (left right : RunEnd) → IsEndFor plan left → IsEndFor plan right → SameEnd left right
 
 -- an end is of the kind that a journal asks for, with the node and the position of a stop
 pub record IsExact (g : GraphValue) (b : ℕ) (script : List Event) (limit : ℕ) (j : List Event) (end : RunEnd) : Type 0 where
@@ -42,32 +42,31 @@ pub record IsExact (g : GraphValue) (b : ℕ) (script : List Event) (limit : ℕ
 -- so is the end of a plan, by its plain journal
 abbrev pub EndsAreExact : Type 0
 EndsAreExact =
-    (g : GraphValue) (b : ℕ) (script : List Event) (limit : ℕ) (end : RunEnd) → IsEndOf g b script limit end
-    → IsExact g b script limit (plain_journal g b script limit) end
+    (plan : PlanValue) (end : RunEnd) → IsEndFor plan end → IsExact plan.graph plan.budget plan.script plan.limit (plain_journal_for plan) end
 
 -- ---- what an end says of its journal
 
 -- a run that ends complete has a complete journal
 abbrev pub CompleteEndsAreComplete : Type 0
 CompleteEndsAreComplete =
-    (g : GraphValue) (b : ℕ) (script : List Event) (limit : ℕ) (h : History) → IsGraph g → NamesInputs g.nodes script
-    → IsEndOf g b script limit (Complete h) → IsComplete g b script h.journal.items
+    (plan : PlanValue) (h : History) → IsGraph plan.graph → NamesInputs plan.graph.nodes plan.script → IsEndFor plan (Complete h)
+    → IsCompleteFor plan h.journal.items
 
 -- where a run stops, the call of that node at that position is over budget
 abbrev pub StoppedEndsAreStopped : Type 0
 StoppedEndsAreStopped =
-    (g : GraphValue) (b : ℕ) (script : List Event) (limit : ℕ) (journal : Spared Event) (node position : ℕ) → IsGraph g → NamesInputs g.nodes script
-    → IsEndOf g b script limit (Stopped journal node position) → IsStopped g b script journal.items node position
+    (plan : PlanValue) (journal : Spared Event) (node position : ℕ) → IsGraph plan.graph → NamesInputs plan.graph.nodes plan.script
+    → IsEndFor plan (Stopped journal node position) → IsStoppedFor plan journal.items node position
 
 -- where a run is full, its journal has every message, and something was still to enter
 abbrev pub FullEndsAreFull : Type 0
 FullEndsAreFull =
-    (g : GraphValue) (b : ℕ) (script : List Event) (limit : ℕ) (h : History) → IsGraph g → NamesInputs g.nodes script
-    → IsEndOf g b script limit (Full h) → IsFull g b script limit h.journal.items
+    (plan : PlanValue) (h : History) → IsGraph plan.graph → NamesInputs plan.graph.nodes plan.script → IsEndFor plan (Full h)
+    → IsFullFor plan h.journal.items
 
 -- a run is complete where every message over its journal is there and no legal journal is longer than the limit
 abbrev pub RunsComplete : Type 0
 RunsComplete =
-    (g : GraphValue) (b : ℕ) (script : List Event) (limit : ℕ) (end : RunEnd) → NamesInputs g.nodes script
-    → ((k p : ℕ) → k < length g.nodes → p ≤ length (plain_journal g b script limit) → IsThere (msg g b (plain_journal g b script limit) k p))
-    → ((j : List Event) → IsLegal g b script j → length j ≤ limit) → IsEndOf g b script limit end → (h : History) × (end ≡ Complete h)
+    (plan : PlanValue) (end : RunEnd) → NamesInputs plan.graph.nodes plan.script
+    → ((k p : ℕ) → k < length plan.graph.nodes → p ≤ length (plain_journal_for plan) → IsThere (msg_for plan (plain_journal_for plan) k p))
+    → ((j : List Event) → IsLegalFor plan j → length j ≤ plan.limit) → IsEndFor plan end → (h : History) × (end ≡ Complete h)

@@ -6,8 +6,11 @@ use Rattle.felm_term.specs.declared.event.Event.{Event}
 use Rattle.felm_graph.specs.GraphValue.{GraphValue}
 use Rattle.felm_graph.specs.Graphs.{IsGraph}
 use Rattle.felm_meaning.specs.declared.plan.Plan.{Plan}
+use Rattle.felm_meaning.specs.PlanValue.{PlanValue}
+use Rattle.felm_meaning.specs.OfPlans.{CameNextFor, next_for}
+use Rattle.felm_meaning.specs.Plans.{plan_of}
 use Rattle.felm_meaning.specs.Meaning.{row, val, sends}
-use Rattle.felm_meaning.specs.Journals.{IsLegal, NamesInputs, IsLeastNone, inputs_in, next}
+use Rattle.felm_meaning.specs.Journals.{IsLegal, NamesInputs, IsLeastNone, inputs_in}
 use Rattle.felm_meaning.specs.Words.{CameNext}
 use Rattle.felm_meaning.specs.Types.{EventsFit}
 use Rattle.felm_plain.specs.declared.run.Run.{Run}
@@ -32,6 +35,10 @@ abbrev pub AreDefaults : GraphValue → ℕ → List Value → Type 0
 AreDefaults g b values =
     (length values ≡ length g.nodes) × ((k : ℕ) → k < length g.nodes → val g b [] k 0 ≡ slice_get values k)
 
+-- the same of a plan
+abbrev pub AreDefaultsFor : PlanValue → List Value → Type 0
+AreDefaultsFor plan values = AreDefaults plan.graph plan.budget values
+
 -- a run of the plan has come as far as its journal, and has taken these events
 abbrev pub Stands : Plan → Run → List Event → Type 0
 Stands p r taken =
@@ -47,7 +54,7 @@ IsBegun p r = IsBetween p r × (r.journal.items ≡ [])
 
 -- the event that comes next in a run
 abbrev pub next_in : Plan → Run → Option Event
-next_in p r = next p.graph p.limits.turn_steps p.script.items r.journal.items
+next_in p r = next_for (plan_of p) r.journal.items
 
 -- the run has taken the event that comes next; or there is none, and the run stays
 abbrev pub TakesNext : Plan → Run → Run → Option Event → Type 0
@@ -60,5 +67,5 @@ abbrev pub Enters : Plan → Run → Event → Run → Option ℕ → Type 0
 Enters p before e after None = IsBetween p after × (after.journal.items ≡ before.journal.items ++ e ∷ [])
 Enters p before e after (Some k) =
     (after.journal.items ≡ before.journal.items ++ e ∷ [])
-    × CameNext p.graph p.limits.turn_steps p.script.items p.limits.journal after.journal.items
+    × CameNextFor (plan_of p) after.journal.items
     × IsLeastNone p.graph (row p.graph p.limits.turn_steps after.journal.items (length after.journal.items)) k

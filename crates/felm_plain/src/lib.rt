@@ -6,8 +6,6 @@ mod queue;
 mod queues;
 mod row;
 mod run;
-#[cfg(test)]
-mod tests;
 
 pub use laws::{
     complete_ends_are_complete, ends_are_exact, full_ends_are_full, one_end, runs_complete,

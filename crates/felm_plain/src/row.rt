@@ -1,15 +1,15 @@
 ghost use Rattle.std.specs.Prelude.{◌≡◌, ◌<◌, ◌∷◌, [], true, Some, length, map, slice_get, slice_set, All, IfOk, OnOk};
-ghost use Rattle.std.specs.List.{list_any};
 ghost use Rattle.felm_term.specs.Values.{value_of};
 ghost use Rattle.felm_term.specs.declared.message.Message.TheVariants.{Change, NoChange};
-ghost use Rattle.felm_meaning.specs.Step.{is_change, change_of, lift_step, foldp_step};
+ghost use Rattle.felm_meaning.specs.Step.{is_change, lift_step, foldp_step};
+ghost use Rattle.felm_meaning.specs.Steps.{sent_by};
 ghost use Rattle.felm_meaning.specs.Meaning.{source_message, message_of};
 ghost use Rattle.felm_meaning.specs.Types.{IsCallable};
 ghost use Rattle.felm_meaning.specs.Values.{message_at, messages_at};
 ghost use Rattle.felm_plain.specs.Rows.{row_of, kept_at, MayStep, Sends, Precedes, AdvancesTo};
 
 use felm_graph::{Graph, NodeKind};
-use felm_meaning::{call_among, call_on_two};
+use felm_meaning::{Among, Step, foldp_step, is_change, lift_step};
 use felm_term::{Event, Memory, Message, Value};
 use std::alloc::Global;
 use std::marker::Model;
@@ -120,7 +120,7 @@ impl Row {
         Ok(true)
     }
 
-    // A lift is called only where one of its arguments changed.
+    // A lift sends its step over what its arguments sent.
     fn lift(
         &mut self,
         alloc: Global,
@@ -134,15 +134,15 @@ impl Row {
         requires callable { IsCallable function.now (map value_of (messages_at self.old arguments.now)) }
         ensures { IfOk result (Sends self.old node (lift_step function.now (kept_at self.old node) (messages_at self.old arguments.now) budget) self.new) }
     {
-        if !self.any_changed(arguments) {
-            self.keep(node);
-            return Ok(true);
-        }
-        let value = call_among(alloc, function, self.as_slice(), arguments, budget)?;
-        Ok(self.put(node, value))
+        let arguments = Among {
+            row: self.as_slice(),
+            nodes: arguments,
+        };
+        let step = lift_step(alloc, function, &arguments, budget)?;
+        Ok(self.put(node, step))
     }
 
-    // A foldp is called only where its argument changed.
+    // So does a foldp, over its own value too.
     fn fold(
         &mut self,
         alloc: Global,
@@ -156,26 +156,17 @@ impl Row {
         requires callable { IsCallable function.now (kept_at self.old argument ∷ kept_at self.old node ∷ []) }
         ensures { IfOk result (Sends self.old node (foldp_step function.now (kept_at self.old node) (messages_at self.old (argument ∷ [])) budget) self.new) }
     {
-        let Message::Change(value) = &self.messages[argument as usize] else {
-            self.keep(node);
-            return Ok(true);
-        };
-        let value = call_on_two(alloc, function, value, self.value(node), budget)?;
-        Ok(self.put(node, value))
+        let argument = self.message(argument);
+        let step = foldp_step(alloc, function, self.value(node), argument, budget)?;
+        Ok(self.put(node, step))
     }
 
-    fn any_changed(&self, nodes: &[u32]) -> bool
-        requires { All (λ a. a < length self.now) nodes.now }
-        ensures { result ≡ list_any (λ a. is_change (message_at self.now a)) nodes.now }
-    {
-        nodes.iter().any(|node| self.has_changed(*node))
-    }
-
-    fn has_changed(&self, node: u32) -> bool
+    // What a node sent last.
+    fn message(&self, node: u32) -> &Message
         requires { node < length self.now }
-        ensures { result ≡ is_change (message_at self.now node) }
+        ensures { result.now ≡ message_at self.now node }
     {
-        is_change(&self.messages[node as usize])
+        &self.messages[node as usize]
     }
 
     // What a node has now.
@@ -183,23 +174,27 @@ impl Row {
         requires { node < length self.now }
         ensures { result.now ≡ kept_at self.now node }
     {
-        match &self.messages[node as usize] {
+        match self.message(node) {
             Message::Change(value) => value,
             Message::NoChange(value) => value,
         }
     }
 
-    // The node changes to what its call gave, if that is within the budget.
-    fn put(&mut self, node: u32, value: Option<Value>) -> bool
+    // What a step does with the node's value. The answer is whether it sends a message.
+    fn put(&mut self, node: u32, step: Step) -> bool
         requires { node < length self.old }
-        ensures { Sends self.old node (change_of value) self.new result }
+        ensures { Sends self.old node (sent_by (kept_at self.old node) step) self.new result }
     {
-        match value {
-            Some(value) => {
+        match step {
+            Step::Change(value) => {
                 self.change(node, value);
                 true
             }
-            None => false,
+            Step::Keep => {
+                self.keep(node);
+                true
+            }
+            Step::Over => false,
         }
     }
 
@@ -220,12 +215,6 @@ impl Row {
             *message = unchanged(mem::take(message));
         }
     }
-}
-
-fn is_change(message: &Message) -> bool
-    ensures { result ≡ is_change message.now }
-{
-    matches!(message, Message::Change(_))
 }
 
 fn unchanged(message: Message) -> Message

@@ -1,6 +1,7 @@
 ghost use Rattle.std.specs.Prelude.{◌≡◌, ◌<◌, ◌↔◌, [], ◌∷◌, ◌++◌, length, IfOk, IsTrue, IsSome, Some, slice_get};
-ghost use Rattle.felm_plain.specs.Runs.{AreDefaults, IsBegun, Stands, IsBetween, next_in, TakesNext, Enters};
-ghost use Rattle.felm_plain.specs.Ends.{IsEndOf};
+ghost use Rattle.felm_meaning.specs.Plans.{plan_of};
+ghost use Rattle.felm_plain.specs.Runs.{AreDefaultsFor, IsBegun, Stands, IsBetween, next_in, TakesNext, Enters};
+ghost use Rattle.felm_plain.specs.Ends.{IsEndFor};
 
 use crate::queues::Queues;
 use crate::row::Row;
@@ -26,7 +27,7 @@ pub struct Run {
 impl Run {
     // A run that has entered nothing.
     fn begin(alloc: Global, plan: &Plan, defaults: &[Value]) -> Result<Run, Memory>
-        requires { AreDefaults plan.now.graph plan.now.limits.turn_steps defaults.now }
+        requires { AreDefaultsFor (plan_of plan.now) defaults.now }
         ensures { IfOk result (IsBegun plan.now) }
     {
         let count = plan.graph.nodes().len();
@@ -116,7 +117,7 @@ fn event_at(script: &[Event], place: usize) -> Result<Option<Event>, Memory>
 /// For each event every node is looked at a fixed number of times; only nodes with an argument that
 /// changed are called.
 pub fn plain_run(alloc: Global, plan: &Plan) -> Result<RunEnd, Memory>
-    ensures { IfOk result (IsEndOf plan.now.graph plan.now.limits.turn_steps plan.now.script.items plan.now.limits.journal) }
+    ensures { IfOk result (IsEndFor (plan_of plan.now)) }
 {
     match defaults(alloc, plan)? {
         Preset::All(values) => run_from(alloc, plan, values.as_slice()),
@@ -130,8 +131,8 @@ pub fn plain_run(alloc: Global, plan: &Plan) -> Result<RunEnd, Memory>
 
 // The run from these defaults on.
 fn run_from(alloc: Global, plan: &Plan, defaults: &[Value]) -> Result<RunEnd, Memory>
-    requires { AreDefaults plan.now.graph plan.now.limits.turn_steps defaults.now }
-    ensures { IfOk result (IsEndOf plan.now.graph plan.now.limits.turn_steps plan.now.script.items plan.now.limits.journal) }
+    requires { AreDefaultsFor (plan_of plan.now) defaults.now }
+    ensures { IfOk result (IsEndFor (plan_of plan.now)) }
 {
     let mut run = Run::begin(alloc, plan, defaults)?;
     let default = defaults[plan.graph.main() as usize].copy()?;

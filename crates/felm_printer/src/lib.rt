@@ -9,8 +9,6 @@ mod sign;
 mod sources;
 mod status;
 mod term;
-#[cfg(test)]
-mod tests;
 mod ty;
 
 pub use fault::{put_fault, tell};

@@ -12,7 +12,8 @@ use Rattle.felm_lexer.specs.declared.token.Token.{Token}
 use Rattle.felm_syntax.specs.Kinds.{unsigned_number, negated, name_of}
 use Rattle.felm_syntax.specs.Grammar.{ReadsLiteral, ReadsDeclaration}
 use Rattle.felm_syntax.specs.Grammar as g
-use Rattle.felm_reading.specs.Reading.{Fault, Twice, ◌>>=◌, place, has_mark, has_word, expect, name, literal, new_name, int_input, unit_input, described, declaration}
+use Rattle.felm_syntax.specs.FirstFaults.{Fault, Twice}
+use Rattle.felm_reading.specs.Reading.{◌>>=◌, place, has_mark, has_word, expect, name, literal, new_name, int_input, unit_input, described, declaration}
 use Rattle.felm_reading.proofs.Tokens.{Took, took, TookName, took_name, TookNumber, took_number, number-is, mark_took, word_took, expect_took, name_took, numeral_took, name_read, number_read, chosen, bind_ok, ok_move, no_ok}
 
 -- the rules, over tokens that were taken
@@ -120,7 +121,7 @@ pub declaration_word : {text : List ℕ} {ts rest : List Token} {d : InputDecl} 
 declaration_word (g.int_input h _ _ _ _ _) = rw h refl
 declaration_word (g.unit_input h _ _ _ _ _ _) = rw h refl
 
-literal_read : (text : List ℕ) {ts rest : List Token} {n : ℤ} → ReadsLiteral ts rest n → literal text ts ≡ Ok (n, rest)
+pub literal_read : (text : List ℕ) {ts rest : List Token} {n : ℤ} → ReadsLiteral ts rest n → literal text ts ≡ Ok (n, rest)
 unfolding literal
 literal_read text (g.unsigned {t} {rest} {n} h) =
     let plain : has_mark symbol.Minus (t ∷ rest) ≡ false = rw (number-is t.kind n h) refl in
@@ -128,10 +129,10 @@ literal_read text (g.unsigned {t} {rest} {n} h) =
 literal_read text (g.signed {m} {t} {rest} {n} h k) = rw h (number_read negated text t rest n k)
 
 -- a name is refused if it was seen
-abbrev if_new : {A : Type 0} → List ℕ → List InputDecl → Token → A → Result A Fault
+abbrev pub if_new : {A : Type 0} → List ℕ → List InputDecl → Token → A → Result A Fault
 if_new x seen n a = if list_any (bytes_eq x) (names_of seen) then Err (Twice n.start) else Ok a
 
-new_name_read : (text : List ℕ) (seen : List InputDecl) (n : Token) (ts : List Token) (x : List ℕ) → name_of text n ≡ Some x →
+pub new_name_read : (text : List ℕ) (seen : List InputDecl) (n : Token) (ts : List Token) (x : List ℕ) → name_of text n ≡ Some x →
     new_name text seen (n ∷ ts) ≡ if_new x seen n (x, ts)
 unfolding new_name
 new_name_read text seen n ts x h = rw (name_read text n ts x h, new_name) refl

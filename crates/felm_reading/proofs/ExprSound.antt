@@ -15,7 +15,8 @@ use Rattle.felm_term.specs.declared.op.Op.{Op}
 use Rattle.felm_lexer.specs.declared.kind.TokenKind.{TokenKind}
 use Rattle.felm_syntax.specs.Grammar.{TypePhrase, Phrase, part, ReadsType, Reads, Continues, Applies, ReadsAll}
 use Rattle.felm_syntax.specs.Grammar as g
-use Rattle.felm_reading.specs.Reading.{Syntax, ◌>>=◌, Answer, Reader, Deeper, Whole, Right, Arguments, place, has_mark, has_word, starts_atom, operator_at, comparison_at, lift_at, expect, expect_word, name, type_in, atom, bracketed, atoms, applies, applied, lift, foldp, async_of, numeral, negative, operand, continues, product, sum, compared, cmp, conjunction, disjunction, part_of, function, binding, choice, expr, reads_in}
+use Rattle.felm_syntax.specs.FirstFaults.{Syntax}
+use Rattle.felm_reading.specs.Reading.{◌>>=◌, Answer, Reader, Deeper, Whole, Right, Arguments, place, has_mark, has_word, starts_atom, operator_at, comparison_at, lift_at, expect, expect_word, name, type_in, atom, bracketed, atoms, applies, applied, lift, foldp, async_of, numeral, negative, operand, continues, product, sum, compared, cmp, conjunction, disjunction, part_of, function, binding, choice, expr, reads_in}
 use Rattle.felm_reading.proofs.Tokens.{Took, took, TookName, took_name, TookNumber, took_number, mark-is, mark_took, word_took, expect_took, expect_word_took, name_took, numeral_took, chosen, bind_ok, ok_move, no_ok}
 use Rattle.felm_reading.proofs.TypeSound.{AreTypes, types_sound}
 
@@ -100,7 +101,7 @@ bracketed_sound text inner sound o ts x ho h =
           ok_move P (a.0.0, b.0) x b.2 (brackets_of ho (sound Whole ts a.0 a.1) (expect_took text symbol.CloseBracket a.0.1 b.0 b.1)))
     ]
 
-abbrev named_or : List Token → Token → Option (List ℕ) → Answer Expression
+abbrev pub named_or : List Token → Token → Option (List ℕ) → Answer Expression
 named_or ts t (Some x) = Ok (expression.Name x t.start, ts)
 named_or ts t None = Err (Syntax t.start)
 
@@ -109,7 +110,7 @@ named_sound : (text : List ℕ) (t : Token) (ts : List Token) (m : Option (List 
 named_sound text t ts (Some n) x e h = ok_move (λ (y : Read). Reads text g.atom (t ∷ ts) y.1 y.0) (expression.Name n t.start, ts) x h (g.name e)
 named_sound text t ts None x e h = absurd (no_ok _ x h)
 
-abbrev atom_at : List ℕ → Reader → Token → List Token → TokenKind → Answer Expression
+abbrev pub atom_at : List ℕ → Reader → Token → List Token → TokenKind → Answer Expression
 atom_at text inner t ts kind.Name = named_or ts t (name_of text t)
 atom_at text inner t ts (kind.Int n) = Ok (expression.Int n t.start, ts)
 atom_at text inner t ts kind.Big = Err (Syntax t.start)
@@ -129,12 +130,12 @@ atom_by text inner sound t ts (kind.Mark m) x e h =
       | inr (o, q) ↦ absurd (no_ok _ x q)
     ]
 
-atom_sound : (text : List ℕ) (inner : Reader) → IsSound text inner → (ts : List Token) (x : Read) → atom text inner ts ≡ Ok x → Reads text g.atom ts x.1 x.0
+pub atom_sound : (text : List ℕ) (inner : Reader) → IsSound text inner → (ts : List Token) (x : Read) → atom text inner ts ≡ Ok x → Reads text g.atom ts x.1 x.0
 unfolding atom
 atom_sound text inner sound [] x h = absurd (no_ok _ x h)
 atom_sound text inner sound (t ∷ ts) x h = atom_by text inner sound t ts t.kind x refl h
 
-atoms_sound : (text : List ℕ) (inner : Reader) → IsSound text inner → (n : ℕ) (ts : List Token) (x : Expressions × List Token) → atoms text inner n ts ≡ Ok x → ReadsAll text n ts x.1 x.0
+pub atoms_sound : (text : List ℕ) (inner : Reader) → IsSound text inner → (n : ℕ) (ts : List Token) (x : Expressions × List Token) → atoms text inner n ts ≡ Ok x → ReadsAll text n ts x.1 x.0
 unfolding atoms
 atoms_sound text inner sound zero ts x h = ok_move (λ (y : Expressions × List Token). ReadsAll text zero ts y.1 y.0) (expression.End, ts) x h g.none
 atoms_sound text inner sound (suc n) ts x h =
@@ -211,7 +212,7 @@ negative_sound text ts x m h =
     ok_move (λ (y : Read). Reads text g.operand ts y.1 y.0) (expression.Int n.0.0 (place text ts), n.0.1) x n.2
     (negative_of text (mark_took symbol.Minus ts m) (numeral_took negated text (drop 1 ts) n.0 n.1))
 
-operand_sound : (text : List ℕ) (inner : Reader) → IsSound text inner → (ts : List Token) (x : Read) → operand text inner ts ≡ Ok x → Reads text g.operand ts x.1 x.0
+pub operand_sound : (text : List ℕ) (inner : Reader) → IsSound text inner → (ts : List Token) (x : Read) → operand text inner ts ≡ Ok x → Reads text g.operand ts x.1 x.0
 unfolding operand
 operand_sound text inner sound ts x h =
     let P : Type 0 = Reads text g.operand ts x.1 x.0 in
@@ -251,11 +252,11 @@ chain_of_sound text inner sound l reader part_sound ts x h =
     let a = bind_ok (reader ts) (λ a. continues text inner l a.0 a.1) x h in
     g.chained (part_sound ts a.0 a.1) (continues_sound text inner sound l a.0.0 a.0.1 x a.2)
 
-product_sound : (text : List ℕ) (inner : Reader) → IsSound text inner → (ts : List Token) (x : Read) → product text inner ts ≡ Ok x → Reads text (g.chain level.Product) ts x.1 x.0
+pub product_sound : (text : List ℕ) (inner : Reader) → IsSound text inner → (ts : List Token) (x : Read) → product text inner ts ≡ Ok x → Reads text (g.chain level.Product) ts x.1 x.0
 unfolding product
 product_sound text inner sound = chain_of_sound text inner sound level.Product (operand text inner) (operand_sound text inner sound)
 
-sum_sound : (text : List ℕ) (inner : Reader) → IsSound text inner → (ts : List Token) (x : Read) → sum text inner ts ≡ Ok x → Reads text (g.chain level.Sum) ts x.1 x.0
+pub sum_sound : (text : List ℕ) (inner : Reader) → IsSound text inner → (ts : List Token) (x : Read) → sum text inner ts ≡ Ok x → Reads text (g.chain level.Sum) ts x.1 x.0
 unfolding sum
 sum_sound text inner sound = chain_of_sound text inner sound level.Sum (product text inner) (product_sound text inner sound)
 
@@ -271,13 +272,13 @@ compares_sound text inner sound all (o ∷ ts) left x (Some sign) d e h =
     let b = bind_ok (sum text inner ts) (λ b. Ok (expression.Bin sign left b.0 o.start, b.1)) x h in
     ok_move (λ (y : Read). Reads text g.cmp all y.1 y.0) (expression.Bin sign left b.0.0 o.start, b.0.1) x b.2 (g.compared d e (sum_sound text inner sound ts b.0 b.1))
 
-cmp_sound : (text : List ℕ) (inner : Reader) → IsSound text inner → (ts : List Token) (x : Read) → cmp text inner ts ≡ Ok x → Reads text g.cmp ts x.1 x.0
+pub cmp_sound : (text : List ℕ) (inner : Reader) → IsSound text inner → (ts : List Token) (x : Read) → cmp text inner ts ≡ Ok x → Reads text g.cmp ts x.1 x.0
 unfolding cmp compared
 cmp_sound text inner sound ts x h =
     let a = bind_ok (sum text inner ts) _ x h in
     compares_sound text inner sound ts a.0.1 a.0.0 x (comparison_at a.0.1) (sum_sound text inner sound ts a.0 a.1) refl a.2
 
-conjunction_sound : (text : List ℕ) (inner : Reader) → IsSound text inner → (ts : List Token) (x : Read) → conjunction text inner ts ≡ Ok x → Reads text (g.chain level.And) ts x.1 x.0
+pub conjunction_sound : (text : List ℕ) (inner : Reader) → IsSound text inner → (ts : List Token) (x : Read) → conjunction text inner ts ≡ Ok x → Reads text (g.chain level.And) ts x.1 x.0
 unfolding conjunction
 conjunction_sound text inner sound = chain_of_sound text inner sound level.And (cmp text inner) (cmp_sound text inner sound)
 
@@ -285,7 +286,7 @@ disjunction_sound : (text : List ℕ) (inner : Reader) → IsSound text inner �
 unfolding disjunction
 disjunction_sound text inner sound = chain_of_sound text inner sound level.Or (conjunction text inner) (conjunction_sound text inner sound)
 
-part_sound : (text : List ℕ) (inner : Reader) → IsSound text inner → (l : Level) (ts : List Token) (x : Read) → part_of text inner l ts ≡ Ok x → Reads text (part l) ts x.1 x.0
+pub part_sound : (text : List ℕ) (inner : Reader) → IsSound text inner → (l : Level) (ts : List Token) (x : Read) → part_of text inner l ts ≡ Ok x → Reads text (part l) ts x.1 x.0
 unfolding part_of
 part_sound text inner sound level.Or = conjunction_sound text inner sound
 part_sound text inner sound level.And = cmp_sound text inner sound

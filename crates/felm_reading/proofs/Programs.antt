@@ -4,7 +4,8 @@ use Rattle.std.specs.Prelude.{Result, Ok, Err, if◌then◌else◌}
 use Rattle.felm_term.specs.declared.input.InputDecl.{InputDecl}
 use Rattle.felm_lexer.specs.declared.kind.WordKind.TheVariants as word
 use Rattle.felm_lexer.specs.declared.token.Token.{Token}
-use Rattle.felm_reading.specs.Reading.{Fault, ◌>>=◌, has_word, declaration, main_of, program_in, program_after}
+use Rattle.felm_syntax.specs.FirstFaults.{Fault}
+use Rattle.felm_reading.specs.Reading.{◌>>=◌, has_word, declaration, main_of, program_in, program_after}
 use Rattle.felm_reading.proofs.Declared.{declaration_sound, shorter}
 
 -- an answer is followed alike, if what was read is followed alike
@@ -42,7 +43,7 @@ some_tokens [] h = cc
 some_tokens (t ∷ ts) h = omega arith
 
 -- more declarations than tokens make no difference
-enough : (text : List ℕ) (room n m : ℕ) (seen : List InputDecl) (ts : List Token) → length ts ≤ n → length ts ≤ m → (b : Bool) →
+pub enough : (text : List ℕ) (room n m : ℕ) (seen : List InputDecl) (ts : List Token) → length ts ≤ n → length ts ≤ m → (b : Bool) →
     has_word word.Input ts ≡ b → program_in text room n seen ts ≡ program_in text room m seen ts
 enough text room n m seen ts le also false h = main_step text room n seen ts h ∙ sym (main_step text room m seen ts h)
 enough text room zero m seen ts le also true h = absurd (omega (arith, some_tokens ts h))

@@ -9,7 +9,8 @@ use Rattle.felm_lexer.specs.declared.kind.WordKind.TheVariants as word
 use Rattle.felm_lexer.specs.declared.kind.TokenKind.{TokenKind}
 use Rattle.felm_lexer.specs.declared.kind.TokenKind.TheVariants as kind
 use Rattle.felm_lexer.specs.declared.token.Token.{Token}
-use Rattle.felm_reading.specs.Reading.{Fault, Syntax, ◌>>=◌, Answer, place, has_mark, has_word, expect, expect_word, name, numeral}
+use Rattle.felm_syntax.specs.FirstFaults.{Fault, Syntax}
+use Rattle.felm_reading.specs.Reading.{◌>>=◌, Answer, place, has_mark, has_word, expect, expect_word, name, numeral}
 
 -- symbols and words are told apart
 symbol-is : (a b : Symbol) → same_symbol a b ≡ true → a ≡ b

@@ -32,7 +32,7 @@ arrow_of : {ts us vs rest : List Token} {from to : CoreType} → ReadsType g.sig
     ReadsType g.whole ts rest (type.Arrow from to)
 arrow_of f (took a) t = g.arrow f a t
 
-closed_sound : (text : List ℕ) (inner : List Token → Answer CoreType) → AreTypes inner g.whole → AreTypes (closed_type text inner) g.closed
+pub closed_sound : (text : List ℕ) (inner : List Token → Answer CoreType) → AreTypes inner g.whole → AreTypes (closed_type text inner) g.closed
 unfolding closed_type
 closed_sound text inner sound ts x h =
     let P : CoreType × List Token → Type 0 = λ y. ReadsType g.closed ts y.1 y.0 in

@@ -1,5 +1,5 @@
--- What ties the reading function to the grammar. Each is a fact about all texts and tokens.
-use Rattle.std.specs.Prelude.{◌≡◌, ℕ, ◌+◌, ◌<◌, ◌≤◌, List, [], length, Ok, Err, Some, bytes_eq}
+-- What ties the reading function to the grammar and its fronts. Each is a fact about all texts and tokens.
+use Rattle.std.specs.Prelude.{◌≡◌, ℕ, ◌+◌, ◌≤◌, List, [], ◌∷◌, ◌++◌, length, Ok, Err, Some, bytes_eq}
 use Rattle.std.specs.List.{All, IsDistinct}
 use Rattle.felm_term.specs.Inputs.{names_of}
 use Rattle.felm_term.specs.declared.input.InputDecl.{InputDecl}
@@ -8,41 +8,24 @@ use Rattle.felm_lexer.specs.declared.kind.TokenKind.TheVariants.{Name}
 use Rattle.felm_lexer.specs.declared.token.Token.{Token}
 use Rattle.felm_syntax.specs.Binders.{binders}
 use Rattle.felm_syntax.specs.Expression.{Expression}
+use Rattle.felm_syntax.specs.FirstFaults.{Fault, Syntax, AllPass, IsFirstFault}
+use Rattle.felm_syntax.specs.Fronts.{IsFront}
 use Rattle.felm_syntax.specs.Grammar.{ReadsProgram}
 use Rattle.felm_syntax.specs.Kinds.{name_of, text_of}
-use Rattle.felm_syntax.specs.Nesting.{nesting}
-use Rattle.felm_reading.specs.Places.{IsPlace, place_of_fault}
-use Rattle.felm_reading.specs.Reading.{Fault, Syntax, Depth, Twice, program_after}
+use Rattle.felm_syntax.specs.Nesting.{NestWithin}
+use Rattle.felm_reading.specs.Reading.{place, program_after}
+
+-- ---- programs
 
 -- what is read is a program by the grammar, with distinct names, and none of its tokens nests too deeply
 abbrev pub ProgramSound : Type 0
 ProgramSound = (text : List ℕ) (limit : ℕ) (ts : List Token) (ds : List InputDecl) (main : Expression) → program_after text limit [] ts ≡ Ok (ds, main)
-    → (reading : ReadsProgram text ts ds main) × IsDistinct bytes_eq (names_of ds) × (nesting reading ≤ limit)
+    → ReadsProgram text ts ds main × IsDistinct bytes_eq (names_of ds) × NestWithin text limit ts
 
--- a program with distinct names, none of whose tokens nests too deeply, is read
+-- Of the tokens of a text, such a program is read.
 abbrev pub ProgramComplete : Type 0
-ProgramComplete = (text : List ℕ) (limit : ℕ) (ts : List Token) (ds : List InputDecl) (main : Expression) (reading : ReadsProgram text ts ds main) →
-    IsDistinct bytes_eq (names_of ds) → nesting reading ≤ limit → program_after text limit [] ts ≡ Ok (ds, main)
-
--- where reading stops at a token that can't stand there, the grammar reads the tokens as no program
-abbrev pub ProgramSyntax : Type 0
-ProgramSyntax = (text : List ℕ) (limit at : ℕ) (ts : List Token) → program_after text limit [] ts ≡ Err (Syntax at)
-    → (ds : List InputDecl) (main : Expression) → ReadsProgram text ts ds main → ⊥
-
--- where reading stops for the nesting, a token of each reading nests too deeply
-abbrev pub ProgramDepth : Type 0
-ProgramDepth = (text : List ℕ) (limit at : ℕ) (ts : List Token) → program_after text limit [] ts ≡ Err (Depth at)
-    → (ds : List InputDecl) (main : Expression) (reading : ReadsProgram text ts ds main) → limit < nesting reading
-
--- where reading stops at a name that was declared, no reading has distinct names
-abbrev pub ProgramTwice : Type 0
-ProgramTwice = (text : List ℕ) (limit at : ℕ) (ts : List Token) → program_after text limit [] ts ≡ Err (Twice at)
-    → (ds : List InputDecl) (main : Expression) → ReadsProgram text ts ds main → IsDistinct bytes_eq (names_of ds) → ⊥
-
--- reading stops at a token or at the end of the text
-abbrev pub FaultPlace : Type 0
-FaultPlace = (text : List ℕ) (limit : ℕ) (ts : List Token) (fault : Fault) → program_after text limit [] ts ≡ Err fault
-    → IsPlace text ts (place_of_fault fault)
+ProgramComplete = (text : List ℕ) (limit : ℕ) (ts : List Token) (ds : List InputDecl) (main : Expression) → Tokenizes text (Whole ts)
+    → ReadsProgram text ts ds main → IsDistinct bytes_eq (names_of ds) → NestWithin text limit ts → program_after text limit [] ts ≡ Ok (ds, main)
 
 -- a program's inputs and binders are no more than its tokens
 abbrev pub ProgramSize : Type 0
@@ -58,3 +41,44 @@ OneProgram = (text : List ℕ) (ts : List Token) (ds es : List InputDecl) (main 
 abbrev pub TokenNames : Type 0
 TokenNames = (text : List ℕ) (tokens : List Token) → Tokenizes text (Whole tokens)
     → All (λ t. t.kind ≡ Name → name_of text t ≡ Some (text_of text t)) tokens
+
+-- ---- fronts and faults
+
+-- none of the tokens of a program is refused
+abbrev pub ProgramPasses : Type 0
+ProgramPasses = (text : List ℕ) (limit : ℕ) (ts : List Token) (ds : List InputDecl) (main : Expression) → Tokenizes text (Whole ts)
+    → ReadsProgram text ts ds main → IsDistinct bytes_eq (names_of ds) → NestWithin text limit ts → AllPass text limit ts
+
+-- a whole program is a front of one
+abbrev pub WholeIsFront : Type 0
+WholeIsFront = (text : List ℕ) (ts : List Token) (ds : List InputDecl) (main : Expression) → ReadsProgram text ts ds main → IsFront text ts
+
+-- Of the tokens of a text, reading stops at the first fault.
+abbrev pub FirstFault : Type 0
+FirstFault = (text : List ℕ) (limit : ℕ) (ts : List Token) (fault : Fault) → Tokenizes text (Whole ts) → program_after text limit [] ts ≡ Err fault
+    → IsFirstFault text limit ts fault
+
+-- tokens have at most one first fault
+abbrev pub OneFirstFault : Type 0
+OneFirstFault = (text : List ℕ) (limit : ℕ) (ts : List Token) (fault other : Fault) → IsFirstFault text limit ts fault → IsFirstFault text limit ts other → fault ≡ other
+
+-- Where the tokens of a text have a first fault, reading stops there.
+abbrev pub FirstFaultMet : Type 0
+FirstFaultMet = (text : List ℕ) (limit : ℕ) (ts : List Token) (fault : Fault) → Tokenizes text (Whole ts) → IsFirstFault text limit ts fault
+    → program_after text limit [] ts ≡ Err fault
+
+-- Where the tokens before one pass, and with that one they are no front, no front begins with them.
+abbrev pub NoFrontGoesOn : Type 0
+NoFrontGoesOn = (text : List ℕ) (limit : ℕ) (first rest more : List Token) (t : Token) → Tokenizes text (Whole (first ++ t ∷ rest))
+    → AllPass text limit first → (IsFront text (first ++ t ∷ []) → ⊥) → IsFront text (first ++ t ∷ more) → ⊥
+
+-- the longest front that tokens begin with, and the tokens behind it
+pub record IsLongestFront (text : List ℕ) (tokens front rest : List Token) : Type 0 where
+  pub split : tokens ≡ front ++ rest
+  pub is_front : IsFront text front
+  pub longest : (longer more : List Token) → tokens ≡ longer ++ more → IsFront text longer → length longer ≤ length front
+
+-- A first fault of the syntax is at the first token behind the longest front, or at the end of the text where none is left.
+abbrev pub BehindLongestFront : Type 0
+BehindLongestFront = (text : List ℕ) (limit at : ℕ) (ts : List Token) → Tokenizes text (Whole ts) → IsFirstFault text limit ts (Syntax at)
+    → (front : List Token) × (rest : List Token) × IsLongestFront text ts front rest × (at ≡ place text rest)

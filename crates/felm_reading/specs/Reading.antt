@@ -19,18 +19,10 @@ use Rattle.felm_lexer.specs.declared.kind.TokenKind.TheVariants as kind
 use Rattle.felm_lexer.specs.declared.token.Token.{Token}
 use Rattle.felm_syntax.specs.declared.level.Level.{Level}
 use Rattle.felm_syntax.specs.declared.level.Level.TheVariants as level
+use Rattle.felm_syntax.specs.FirstFaults.{Fault, Syntax, Depth, Twice}
 use Rattle.felm_syntax.specs.Kinds.{is_mark, is_keyword, operator, comparison, lift_count, unsigned_number, negated, name_of}
 use Rattle.felm_syntax.specs.Expression.{Expression, Expressions}
 use Rattle.felm_syntax.specs.Expression as expression
-
--- a fault of the tokens, with its place
-pub data Fault : Type 0 where
-  -- a token that can't follow those before it, or the end of the text where more must follow
-  Syntax : (at : ℕ) → Fault
-  -- a token that nests too deeply
-  Depth : (at : ℕ) → Fault
-  -- a name that was declared before
-  Twice : (at : ℕ) → Fault
 
 -- what is read after something was, if it was
 infixl 10 ◌>>=◌

@@ -9,7 +9,5 @@ mod part;
 mod reduction;
 mod search;
 mod stage;
-#[cfg(test)]
-mod tests;
 
 pub use stage::{Staged, stage_one};

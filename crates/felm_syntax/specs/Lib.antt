@@ -8,3 +8,5 @@ pub mod Grammar
 pub mod Nesting
 pub mod Binders
 pub mod ProgramText
+pub mod Fronts
+pub mod FirstFaults

@@ -1,4 +1,4 @@
-use Rattle.std.proofs.Common.{◌≡◌, ◌<◌, ◌∙◌, Some, arith, sym, get_or}
+use Rattle.std.proofs.Common.{◌≡◌, ◌∙◌, Some, arith, sym, get_or}
 use Rattle.std.specs.List.{slice_get}
 use Rattle.std.proofs.lemmas.Option.{slice_get-get_or}
 use Rattle.felm_edges.specs.Parts.{with_message}

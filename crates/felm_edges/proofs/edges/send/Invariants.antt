@@ -1,4 +1,4 @@
-use Rattle.std.proofs.Common.{◌≡◌, ◌+◌, length, take}
+use Rattle.std.proofs.Common.{◌≡◌, ◌+◌, take}
 use Rattle.felm_edges.specs.Parts.{with_message, changed_at_each}
 use Rattle.felm_edges.proofs.edges.send.Given as goal
 

@@ -1,4 +1,4 @@
-use Rattle.std.proofs.Common.{◌≡◌, ℕ, ◌<◌, ◌∙◌, ◌++◌, ◌∷◌, List, [], ap, sym, subst, arith, length, map, get_or}
+use Rattle.std.proofs.Common.{◌≡◌, ℕ, ◌<◌, ◌∙◌, ◌++◌, ◌∷◌, List, [], ap, sym, subst, arith, length, map}
 use Rattle.std.proofs.lemmas.List.{length-map, get_or_default}
 use Rattle.felm_edges.specs.EdgesValue.{IsWired}
 use Rattle.felm_edges.specs.Parts.{EdgeValue, sources_of, row_of}

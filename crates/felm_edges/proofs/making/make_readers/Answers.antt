@@ -1,4 +1,4 @@
-use Rattle.std.proofs.Common.{◌∙◌, sym, arith, length, map}
+use Rattle.std.proofs.Common.{sym, arith, length, map}
 use Rattle.std.proofs.lemmas.List.{length-map}
 use Rattle.felm_edges.specs.Parts.{EdgeValue, sources_of}
 use Rattle.felm_edges.proofs.ReadersOfNodes.{first_node, last_node}

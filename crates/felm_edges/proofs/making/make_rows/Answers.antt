@@ -1,5 +1,5 @@
 use Rattle.std.proofs.Common.{◌≡◌, ◌<◌, ◌∙◌, ◌++◌, ◌∷◌, Bool, true, cond, List, [], ap, sym, arith, length, map, is_ok}
-use Rattle.felm_edges.specs.Parts.{EdgeValue, new_edge}
+use Rattle.felm_edges.specs.Parts.{new_edge}
 use Rattle.felm_edges.proofs.NewEdges.{next_row}
 use Rattle.felm_edges.proofs.making.make_rows.Goals as goal
 

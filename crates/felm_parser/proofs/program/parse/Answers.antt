@@ -1,4 +1,4 @@
-use Rattle.felm_parser.proofs.Outcome.{is_program, accepts, size, syntax, depth, twice, place}
+use Rattle.felm_parser.proofs.Outcome.{is_program, accepts, size, fault_is, refuses}
 use Rattle.felm_parser.proofs.program.parse.Goals as goal
 
 pub returns : goal.returns
@@ -8,10 +8,8 @@ returns c =
     let read = c.program.ensures in
     record {
       program = is_program text ts c.program.result read;
-      accepts = accepts text ts c.program.result read;
+      accepts = accepts text ts c.program.result read c.requires;
       size = size text ts c.program.result read c.requires;
-      syntax = syntax text ts c.program.result read;
-      depth = depth text ts c.program.result read;
-      twice = twice text ts c.program.result read;
-      place = place text ts c.program.result read;
+      fault = fault_is text ts c.program.result read c.requires;
+      refuses = refuses text ts c.program.result read c.requires;
     }

@@ -1,8 +1,8 @@
 use Rattle.std.proofs.Common.{length, arith}
-use Rattle.felm_meaning.specs.Journals.{plain_journal}
+use Rattle.felm_meaning.specs.OfPlans.{plain_journal_for}
 use Rattle.felm_plain.proofs.EndLaws.{completes}
 use Rattle.felm_plain.proofs.laws.runs_complete.Goals as goal
 
 pub returns : goal.returns
-returns c = λ g b script limit end named there most w.
-    completes g b script limit end named (λ k l. there k (length (plain_journal g b script limit)) l (omega arith)) most w
+returns c = λ plan end named there most w.
+    completes plan.graph plan.budget plan.script plan.limit end named (λ k l. there k (length (plain_journal_for plan)) l (omega arith)) most w

@@ -1,4 +1,4 @@
-use Rattle.felm_reading.proofs.Whole.{token_names}
+use Rattle.felm_reading.proofs.TokenNames.{token_names}
 use Rattle.felm_reading.proofs.laws.name_tokens_have_names.Goals as goal
 
 pub returns : goal.returns

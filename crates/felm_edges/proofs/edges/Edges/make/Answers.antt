@@ -1,4 +1,4 @@
-use Rattle.std.proofs.Common.{◌≡◌, ◌∙◌, ◌<◌, ◌≤◌, List, ap, sym, subst, arith, length}
+use Rattle.std.proofs.Common.{◌∙◌, ◌<◌, List, ap, sym, subst, arith, length}
 use Rattle.felm_edges.specs.EdgesValue.{wiring_of, IsWired}
 use Rattle.felm_edges.specs.Parts.{EdgeValue, sources_of}
 use Rattle.felm_edges.specs.Readers.{AreReaders}

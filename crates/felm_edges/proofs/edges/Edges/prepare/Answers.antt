@@ -1,11 +1,6 @@
-use Rattle.std.proofs.Common.{◌≡◌, ◌<◌, ◌≤◌, ◌∙◌, Some, None, Result, Ok, Err, ℕ, Option, ap, sym, arith, length, set, OnOk, OnErr}
-use Rattle.felm_term.specs.declared.message.Message.{Message}
-use Rattle.felm_edges.specs.Changes.{PreparedFrom}
-use Rattle.felm_edges.specs.Inside.{edges_from}
-use Rattle.felm_edges.specs.Parts.{OutletValue}
-use Rattle.felm_edges.specs.Readers.{readers_of}
-use Rattle.felm_edges.proofs.Reading.{node_within, shown_readers}
-use Rattle.felm_edges.proofs.Writing.{prepared_from, preparing_keeps, stocked_by, stocked_read, prepared_ok, prepared_err}
+use Rattle.std.proofs.Common.{arith}
+use Rattle.felm_edges.proofs.Reading.{node_within}
+use Rattle.felm_edges.proofs.Writing.{prepared_ok, prepared_err}
 use Rattle.felm_edges.proofs.edges.Edges.prepare.Goals as goal
 
 pub returns-clause-ok : goal.returns-clause-ok

@@ -1,11 +1,9 @@
-use Rattle.std.proofs.Common.{◌≡◌, ◌<◌, ◌≤◌, ◌∙◌, List, Option, Some, ap, sym, subst, arith, length, set, All, IsSome}
-use Rattle.std.proofs.lemmas.List.{with_items_is}
+use Rattle.std.proofs.Common.{◌≡◌, ◌<◌, ◌∙◌, List, Option, ap, sym, subst, arith, length, All, IsSome}
 use Rattle.felm_term.specs.declared.message.Message.{Message}
-use Rattle.felm_edges.specs.EdgesValue.{EdgesValue, prepared_in, HasRoomIn}
-use Rattle.felm_edges.specs.Changes.{PutFrom}
-use Rattle.felm_edges.specs.Parts.{EdgeValue, OutletValue, new_outlet, IsThere, HasPlaceAt, with_message, changed_at_each}
+use Rattle.felm_edges.specs.EdgesValue.{EdgesValue, HasRoomIn}
+use Rattle.felm_edges.specs.Parts.{EdgeValue, IsThere, HasPlaceAt}
 use Rattle.felm_edges.specs.Readers.{readers_of, AllOnce}
-use Rattle.felm_edges.specs.Inside.{edges_from, GoTogether}
+use Rattle.felm_edges.specs.Inside.{edges_from}
 use Rattle.felm_edges.specs.declared.readers.Reader.{Reader}
 use Rattle.felm_edges.proofs.Reading.{shown_readers, readers_there, all_there, room_is}
 use Rattle.felm_edges.proofs.Writing.{put_from, putting_keeps, prepared_within, message_read, stocked_read, put_together, put_edges}

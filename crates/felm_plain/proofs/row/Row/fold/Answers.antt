@@ -1,30 +1,24 @@
-use Rattle.std.proofs.Common.{◌≡◌, ◌∙◌, ap, sym, subst, List, [], ◌∷◌, get_or, set}
+use Rattle.std.proofs.Common.{◌∙◌, ap, sym, subst, Option, [], ◌∷◌}
 use Rattle.felm_term.specs.Values.{value_of}
 use Rattle.felm_term.specs.declared.value.Value.{Value}
 use Rattle.felm_term.specs.declared.message.Message.{Message}
-use Rattle.felm_term.specs.declared.message.Message.TheVariants.{Change, NoChange}
 use Rattle.felm_meaning.specs.Step.{foldp_step}
+use Rattle.felm_meaning.specs.Steps.{sent_by}
 use Rattle.felm_meaning.specs.Types.{IsCallable}
-use Rattle.felm_meaning.specs.Values.{message_at}
-use Rattle.felm_plain.specs.Rows.{row_of, kept_at}
-use Rattle.felm_plain.proofs.Rows.{sent, read_message}
+use Rattle.felm_plain.specs.Rows.{kept_at, Sends}
 use Rattle.felm_plain.proofs.row.Row.fold.Goals as goal
 
-pub returns-in_default : goal.returns-in_default
-returns-in_default c =
-    let v : c.self.inside.messages.items ≡ c.args.self.now = c.self.view_is in
-    let m : message_at c.args.self.now c.args.argument ≡ NoChange c.in_default.field-0 =
-    read_message c.args.self.now c.args.argument c.index.result.now c.requires.there
-    (c.index.ensures ∙ ap (λ (ms : List Message). get_or ms c.args.argument c.index.result.now) v) ∙ c.in_default.is in
-    sent c.args.self.now c.keep.new.self c.args.node (NoChange (kept_at c.args.self.now c.args.node)) c.keep.ensures ∙
-    ap (λ (x : Message). set (row_of c.args.self.now) c.args.node
-    (foldp_step c.args.function.now (kept_at c.args.self.now c.args.node) (x ∷ []) c.args.budget)) (sym m)
+pub foldp_step-requires : goal.foldp_step-requires
+foldp_step-requires c =
+    subst (λ (m : Message). IsCallable c.args.function.now (value_of m ∷ c.value.result.now ∷ [])) (sym c.message-argument.ensures)
+    (subst (λ (v : Value). IsCallable c.args.function.now (kept_at c.args.self.now c.args.argument ∷ v ∷ [])) (sym c.value.ensures) c.requires.callable)
 
-pub call_on_two-requires : goal.call_on_two-requires
-call_on_two-requires c =
-    let v : c.self.inside.messages.items ≡ c.args.self.now = c.self.view_is in
-    let m : message_at c.args.self.now c.args.argument ≡ Change c.in-Change.value =
-    read_message c.args.self.now c.args.argument c.index.result.now c.requires.there
-    (c.index.ensures ∙ ap (λ (ms : List Message). get_or ms c.args.argument c.index.result.now) v) ∙ c.in-Change.is in
-    subst (λ (x : Value). IsCallable c.args.function.now (c.in-Change.value ∷ x ∷ [])) (sym c.value.ensures)
-    (subst (λ (x : Message). IsCallable c.args.function.now (value_of x ∷ kept_at c.args.self.now c.args.node ∷ [])) m c.requires.callable)
+pub returns : goal.returns
+returns c =
+    let old = kept_at c.args.self.now c.args.node in
+    subst (λ (m : Option Message). Sends c.args.self.now c.args.node m c.put.new.self c.put.result)
+    (ap (λ (v : Value). sent_by v c.in_ok-step.step) (sym c.value.ensures) ∙
+    (c.in_ok-step.ensures ∙
+    (ap (λ (v : Value). foldp_step c.args.function.now v (c.message-argument.result.now ∷ []) c.args.budget) c.value.ensures ∙
+    ap (λ (m : Message). foldp_step c.args.function.now old (m ∷ []) c.args.budget) c.message-argument.ensures)))
+    c.put.ensures

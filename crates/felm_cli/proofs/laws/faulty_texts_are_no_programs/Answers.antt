@@ -1,5 +1,0 @@
-use Rattle.felm_cli.proofs.Refusals.{faulty_texts}
-use Rattle.felm_cli.proofs.laws.faulty_texts_are_no_programs.Goals as goal
-
-pub returns : goal.returns
-returns c = faulty_texts

@@ -1,5 +1,0 @@
-use Rattle.felm_cli.proofs.Refusals.{program_or_fault}
-use Rattle.felm_cli.proofs.laws.texts_are_programs_or_faulty.Goals as goal
-
-pub returns : goal.returns
-returns c = program_or_fault

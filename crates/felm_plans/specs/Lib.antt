@@ -1,0 +1,4 @@
+pub mod Status
+pub mod Faults
+pub mod Plans
+pub mod Laws
