@@ -1,6 +1,5 @@
 //! Turns come back.
-ghost use Rattle.std.specs.Prelude.{◌≡◌, ◌↔◌, ◌<◌, ◌==◌, ℕ, suc, true, if◌then◌else◌, Some, None, length, IsTrue, IfOk, OnOk, OnErr, IsOk, IsSome, ◌+◌, ◌≤◌, ◌++◌};
-ghost use Rattle.std.specs.Option.{option_to_list};
+ghost use Rattle.std.specs.Prelude.{◌≡◌, ◌↔◌, ◌<◌, ◌==◌, ℕ, suc, true, if◌then◌else◌, Some, None, length, IsTrue, IfOk, OnOk, OnErr, IsOk};
 ghost use Rattle.felm_term.specs.Values.{value_of, IsPlain};
 ghost use Rattle.felm_meaning.specs.OfPlans.{msg_for};
 ghost use Rattle.felm_meaning.specs.Step.{step};
@@ -14,9 +13,10 @@ ghost use Rattle.felm_engine.specs.Stops.{stop_of};
 use crate::answers::{Deposit, Stop};
 use crate::engine::Engine;
 use crate::heads::are_heads;
+use crate::outputs::show;
 use felm_graph::{NodeKind, arguments_of};
 use felm_meaning::{Done, Job, Outcome, Turn, equal_values};
-use felm_term::{Memory, Message, Messages, Value};
+use felm_term::{Memory, Message, Value};
 
 impl Engine {
     /// Takes back a computed turn. It is settled if it is out: if a turn of its node is out, at its
@@ -148,17 +148,6 @@ impl Engine {
             self.out[node] = false;
             self.turns_out -= 1;
         }
-    }
-}
-
-// What a node has sent is shown, if there is room for it.
-fn show(shown: Option<Message>, outputs: &mut Messages)
-    requires { IsSome shown → 0 < outputs.old.spare }
-    ensures items { outputs.new.items ≡ outputs.old.items ++ option_to_list shown }
-    ensures spare { outputs.old.spare ≤ outputs.new.spare + length (option_to_list shown) }
-{
-    if let Some(message) = shown {
-        let _ = outputs.push(message);
     }
 }
 

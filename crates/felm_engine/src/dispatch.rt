@@ -1,6 +1,5 @@
 //! Events come in.
-ghost use Rattle.std.specs.Prelude.{◌≡◌, ◌+◌, ◌<◌, ◌≤◌, ◌++◌, ℕ, Some, length, slice_get, MatchBool, IfOk, OnOk, OnErr};
-ghost use Rattle.std.specs.Option.{option_to_list};
+ghost use Rattle.std.specs.Prelude.{◌≡◌, ◌<◌, ℕ, Some, length, slice_get, MatchBool, IfOk, OnOk, OnErr};
 ghost use Rattle.felm_term.specs.declared.value.Value.{Value};
 ghost use Rattle.felm_core.specs.Moves.{HasPlace};
 ghost use Rattle.felm_engine.specs.Answers.{planned, Moved, MayComeIn, coming_in, AllHaveRoom, LacksRoom, EnteredAs};
@@ -8,11 +7,12 @@ ghost use Rattle.felm_engine.specs.Sources.{shown_by};
 
 use crate::answers::Entered;
 use crate::engine::Engine;
+use crate::outputs::show;
 use crate::sources::{
     count_messages, have_room, message_at, prepare_messages, put_messages, reserve_queues,
 };
 use felm_graph::{Graph, is_source};
-use felm_term::{Event, Memory, Message, Messages, Value};
+use felm_term::{Event, Memory, Message, Value};
 
 impl Engine {
     /// Enters an event of a source: a fed value of an input, or the value that has waited longest at
@@ -95,15 +95,4 @@ fn shown_at(graph: &Graph, event: &Event, kept: &[Value]) -> Result<Option<Messa
     }
     let message = message_at(event, main, &kept[main as usize])?;
     Ok(Some(message))
-}
-
-// Appends a message to the outputs, if there is one. There is room for it.
-fn show(shown: Option<Message>, outputs: &mut Messages)
-    requires { 0 < outputs.old.spare }
-    ensures items { outputs.new.items ≡ outputs.old.items ++ option_to_list shown }
-    ensures spare { outputs.old.spare ≤ outputs.new.spare + length (option_to_list shown) }
-{
-    if let Some(message) = shown {
-        let _ = outputs.push(message);
-    }
 }

@@ -10,6 +10,7 @@ mod engine;
 mod heads;
 mod laws;
 mod lists;
+mod outputs;
 mod queue;
 mod sources;
 mod waiting;

@@ -204,7 +204,7 @@ put-requires-clause-room c =
     c.take_first.ensures
 
 pub show-requires : goal.show-requires
-show-requires c = omega (arith, c.in_ok-reserve-2.ensures.ok)
+show-requires c = λ h. omega (arith, c.in_ok-reserve-2.ensures.ok)
 
 -- what the engine keeps after the event
 entered : (c : goal.After-push)
