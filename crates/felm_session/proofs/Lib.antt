@@ -1,0 +1,4 @@
+pub mod Stepping
+pub mod Entering
+pub mod Fullness
+pub mod Settling

@@ -1,0 +1,3 @@
+pub mod SessionValue
+pub mod Inside
+pub mod Answers
