@@ -1,5 +1,5 @@
 -- What the law of this crate says.
-use Rattle.std.specs.Prelude.{ℕ, List}
+use Rattle.std.specs.Prelude.{◌≡◌, ℕ, List}
 use Rattle.felm_printer.specs.declared.status.Status.{Status}
 use Rattle.felm_cli.specs.Words.{OrderValue}
 use Rattle.felm_cli.specs.Promises.{ComeTo}
