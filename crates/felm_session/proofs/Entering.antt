@@ -1,14 +1,18 @@
 -- What a session enters may come in, and what its calls then answer.
-use Rattle.std.proofs.Common.{◌≡◌, ℕ, suc, ◌+◌, ◌<◌, ◌≤◌, ◌⊎◌, inl, inr, Option, Some, None, Ok, Err, Result, IfOk, OnErr, List, [], ◌∷◌, ◌++◌, length, refl, sym, ap, ◌∙◌, subst, arith}
+use Rattle.std.proofs.Common.{◌≡◌, ℕ, suc, zero, get_or, ◌+◌, ◌<◌, ◌≤◌, ◌⊎◌, inl, inr, Option, Some, None, Ok, Err, Result, IfOk, OnErr, List, [], ◌∷◌, ◌++◌, length, refl, sym, ap, ◌∙◌, subst, arith}
 use Rattle.std.specs.List.{slice_get}
-use Rattle.std.specs.Option.{option_map_or}
-use Rattle.std.proofs.lemmas.Option.{none-some, same_Some, slice_get_within}
+use Rattle.std.specs.Option.{option_map_or, option_and_then}
+use Rattle.std.proofs.lemmas.Bool.{cases_eq, cases_lt}
+use Rattle.std.proofs.lemmas.Option.{none-some, slice_get-get_or}
 use Rattle.felm_term.specs.declared.value.Value.{Value}
 use Rattle.felm_term.specs.declared.event.Event.{Event}
 use Rattle.felm_term.specs.declared.memory.Memory.{Memory}
 use Rattle.felm_graph.specs.Graphs.{IsGraph}
 use Rattle.felm_graph.specs.declared.node.Node.{Node}
-use Rattle.felm_meaning.specs.Nodes.{inner}
+use Rattle.felm_graph.specs.declared.node.NodeKind.{NodeKind}
+use Rattle.felm_graph.specs.declared.node.NodeKind.TheVariants as kind
+use Rattle.felm_meaning.specs.declared.plan.Plan.{Plan}
+use Rattle.felm_meaning.specs.Nodes.{inner, inner_of_kind}
 use Rattle.felm_meaning.specs.OfPlans.{IsLegalFor}
 use Rattle.felm_meaning.specs.Journals.{entered}
 use Rattle.felm_meaning.specs.Types.{EventsFit}
@@ -97,6 +101,46 @@ waits_not_none engine a w none = none-some w.0 (sym (ap (λ (vs : List Value). s
 pub waits_at : (engine : EngineValue) (a : ℕ) → IsGraph engine.plan.graph → Waits engine a → (x : ℕ) × (inner engine.plan.graph.nodes a ≡ Some x)
 waits_at engine a graph w = let f = waits_first (planned engine) graph engine.position a w.0 w.1 in (f.0, f.1)
 
+-- so none waits at a node of another kind
+inner_past : (nodes : List Node) (a : ℕ) → length nodes ≤ a → inner nodes a ≡ None
+inner_past [] a l = refl
+inner_past (n ∷ ns) zero l = absurd (omega (arith, l))
+inner_past (n ∷ ns) (suc a) l = inner_past ns a (omega (arith, l))
+
+pub no_inner : (k : NodeKind)
+    → ((x : ℕ) × (k ≡ kind.Input x))
+    ⊎ (((f : Value) × (xs : List ℕ) × (k ≡ kind.Lift f xs)) ⊎ ((f : Value) × (base : Value) × (x : ℕ) × (k ≡ kind.Foldp f base x)))
+    → inner_of_kind k ≡ None
+no_inner k (inl h) = ap inner_of_kind h.1
+no_inner k (inr (inl h)) = ap inner_of_kind h.2
+no_inner k (inr (inr h)) = ap inner_of_kind h.3
+
+pub not_waiting : (engine : EngineValue) (plan : Plan) (nodes : List Node) (k : ℕ) (n : Node) → plan ≡ engine.plan → nodes ≡ plan.graph.nodes
+    → k < length engine.plan.graph.nodes → inner_of_kind (get_or nodes k n).kind ≡ None → Waits engine k → ⊥
+not_waiting engine plan nodes k n p e l none w =
+    let here : nodes ≡ engine.plan.graph.nodes = e ∙ ap (λ (q : Plan). q.graph.nodes) p in
+    let m : k < length nodes = omega (arith, l, ap length here) in
+    let at : inner nodes k ≡ inner_of_kind (get_or nodes k n).kind =
+    ap (λ (o : Option Node). option_and_then (λ (y : Node). inner_of_kind y.kind) o) (slice_get-get_or nodes k n m) in
+    let all : inner engine.plan.graph.nodes k ≡ None =
+    ap (λ (ns : List Node). inner ns k) (sym here) ∙ (at ∙ none) in
+    waits_not_none engine k w (nothing_waits (planned engine) engine.position k all)
+
+-- one node after another
+pub none_waits_more : (engine : EngineValue) (n : ℕ) → ((x : ℕ) → x < n → NoneWaits engine x) → (Waits engine n → ⊥) → (x : ℕ) → x < n + 1
+    → NoneWaits engine x
+none_waits_more engine n before this x l = elim (cases_eq x n) [
+  | inl e ↦ subst (NoneWaits engine) (sym e) (none_waits engine n this)
+  | inr ne ↦ before x (omega (arith, l, ne))
+]
+
+pub none_waits_anywhere : (engine : EngineValue) (n : ℕ) → length engine.plan.graph.nodes ≤ n → ((x : ℕ) → x < n → NoneWaits engine x)
+    → (a : ℕ) → NoneWaits engine a
+none_waits_anywhere engine n all before a = elim (cases_lt a n) [
+  | inl l ↦ before a l
+  | inr l ↦ nothing_waits (planned engine) engine.position a (inner_past engine.plan.graph.nodes a (omega (arith, all, l)))
+]
+
 -- ---- answers
 
 -- the move by which the event comes in is that of its source
@@ -109,6 +153,11 @@ enter_move e x i h = ap (λ (o : Option ℕ). option_map_or (λ i. Enter e.sourc
 pub moved_by_feed : (old new : EngineValue) (e : Event) → inner old.plan.graph.nodes e.source ≡ None
     → Moved old (coming_in old.plan.graph.nodes e) new → Moved old (Feed e.source e.value) new
 moved_by_feed old new e none moved = subst (λ (m : Move). Moved old m new) (feed_move e (inner old.plan.graph.nodes e.source) none) moved
+
+-- a fed event came in
+pub fed_at : (old new : EngineValue) (n : ℕ) (e : Event) (position : ℕ) → IsGraph old.plan.graph → slice_get old.plan.script.items n ≡ Some e
+    → EnteredAs old e new (entered.At position) → (position ≡ suc (length old.position.journal)) × Moved old (Feed e.source e.value) new
+fed_at old new n e position graph next h = (h.0, moved_by_feed old new e (fed_source old n e graph next) h.1)
 
 pub moved_by_entry : (old new : EngineValue) (e : Event) (x : ℕ) → inner old.plan.graph.nodes e.source ≡ Some x
     → Moved old (coming_in old.plan.graph.nodes e) new → Moved old (Enter e.source) new

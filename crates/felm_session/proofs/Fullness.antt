@@ -35,11 +35,11 @@ module _ (old : SessionValue) (graph : IsGraph old.engine.plan.graph) (sound : I
   feed_not_full new fed.NoneLeft h e = cc
   feed_not_full new fed.NoneWaiting h e = h
   feed_not_full new fed.NoRoom h e = cc
-  feed_not_full new fed.Full h e = let l = place_for_left h.0 in let q : IsAtLimit old.engine = h.1.0 in omega (arith, l, q)
+  feed_not_full new fed.Full h e = let l = place_for_left h.0 in let q : IsAtLimit old.engine = h.1 in omega (arith, l, q)
 
   pub enter_not_full : (a : ℕ) (new : SessionValue) (answer : Fed) → EnteredAt old a new answer → answer ≡ fed.Full → ⊥
   enter_not_full a new (fed.At position) h e = cc
   enter_not_full a new fed.NoneLeft h e = h
   enter_not_full a new fed.NoneWaiting h e = cc
   enter_not_full a new fed.NoRoom h e = cc
-  enter_not_full a new fed.Full h e = let l = place_for_waiting a h.0 in let q : IsAtLimit old.engine = h.1.0 in omega (arith, l, q)
+  enter_not_full a new fed.Full h e = let l = place_for_waiting a h.0 in let q : IsAtLimit old.engine = h.1 in omega (arith, l, q)

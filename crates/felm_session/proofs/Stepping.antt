@@ -1,6 +1,6 @@
 -- A session's cursor keeps step with its journal, which so is legal.
-use Rattle.std.proofs.Common.{◌≡◌, ℕ, suc, ◌+◌, ◌<◌, ◌≤◌, Some, Ok, Err, Result, IfOk, OnErr, List, [], ◌∷◌, ◌++◌, length, take, drop, refl, sym, ap, ◌∙◌, subst, append-nil, take-append-drop, length-take-le, arith}
-use Rattle.std.specs.List.{slice_get}
+use Rattle.std.proofs.Common.{◌≡◌, ℕ, suc, ◌+◌, ◌^◌, ◌<◌, ◌≤◌, Bool, true, false, cond, Some, Ok, Err, Result, IfOk, OnErr, List, [], ◌∷◌, ◌++◌, length, take, drop, refl, sym, ap, ◌∙◌, subst, append-nil, take-append-drop, length-take-le, arith}
+use Rattle.std.specs.List.{slice_get, filter}
 use Rattle.std.proofs.lemmas.Option.{slice_get_within}
 use Rattle.felm_term.specs.declared.event.Event.{Event}
 use Rattle.felm_term.specs.declared.memory.Memory.{Memory}
@@ -10,6 +10,7 @@ use Rattle.felm_meaning.specs.declared.plan.Plan.{Plan}
 use Rattle.felm_meaning.specs.declared.outcome.Outcome.{Outcome}
 use Rattle.felm_meaning.specs.declared.outcome.Outcome.TheVariants as outcome
 use Rattle.felm_meaning.specs.Outcomes.{DoneValue}
+use Rattle.felm_meaning.specs.Nodes.{is_input}
 use Rattle.felm_meaning.specs.Journals.{inputs_in}
 use Rattle.felm_meaning.specs.OfPlans.{IsLegalFor}
 use Rattle.felm_meaning.proofs.Plain.{take-more}
@@ -117,3 +118,26 @@ in_step_legal engine cursor sound step =
 pub cursor_counts : (engine : EngineValue) (cursor : ℕ) → IsInStep engine cursor
     → length (inputs_in engine.plan.graph engine.position.journal) ≡ cursor
 cursor_counts engine cursor step = ap length step.fed ∙ length-take-le cursor engine.plan.script.items step.within
+
+-- ---- and the cursor is no large number
+
+filter_few : {X : Type 0} (p : X → Bool) (xs : List X) → length (filter p xs) ≤ length xs
+filter_few p [] = omega arith
+filter_few p (x ∷ xs) = go (p x) (filter_few p xs)
+  where
+    go : (t : Bool) → length (filter p xs) ≤ length xs → length (cond t (x ∷ filter p xs) (filter p xs)) ≤ length (x ∷ xs)
+    go true ih = omega arith
+    go false ih = omega arith
+
+inputs_few : (g : GraphValue) (j : List Event) → length (inputs_in g j) ≤ length j
+unfolding inputs_in
+inputs_few g j = filter_few (λ (e : Event). is_input g.nodes e.source) j
+
+pub cursor_fits : (engine : EngineValue) (cursor : ℕ) → IsSound (planned engine) engine.position → IsInStep engine cursor → cursor + 1 < 2 ^ 64
+cursor_fits engine cursor sound step =
+    let counts : length (inputs_in engine.plan.graph engine.position.journal) ≡ cursor = cursor_counts engine cursor step in
+    let few : length (inputs_in engine.plan.graph engine.position.journal) ≤ length engine.position.journal =
+    inputs_few engine.plan.graph engine.position.journal in
+    let within : length engine.position.journal ≤ engine.plan.limits.journal = sound.within in
+    let most : engine.plan.limits.journal ≤ 16777216 = engine.plan.limits.journal_in_range.1 in
+    omega (arith, counts, few, within, most)
