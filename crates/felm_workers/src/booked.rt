@@ -43,9 +43,14 @@ impl<B: Bench, L: Ledger> Booked<B, L> {
         book.audit(share);
         let _settled = bench.turns_settled();
         let sends = sends(&done);
-        if is_settled(bench.deposit(done)?) && sends {
-            book.add(share, 1);
-            *count += 1;
+        match bench.deposit(done)? {
+            Deposit::Settled => {
+                if sends {
+                    book.add(share, 1);
+                    *count += 1;
+                }
+            }
+            Deposit::Reopened => {}
         }
         Ok(())
     }
@@ -82,8 +87,4 @@ fn sends(done: &Done) -> bool
     ensures { result ≡ is_some (sent_of done.now.outcome) }
 {
     matches!(done.outcome(), Outcome::Sent(_))
-}
-
-fn is_settled(answer: Deposit) -> bool {
-    matches!(answer, Deposit::Settled)
 }

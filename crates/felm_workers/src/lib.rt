@@ -13,13 +13,14 @@ mod shares;
 mod sleepers;
 mod tally;
 mod team;
-
-pub use gate::{FreeGate, Gate};
-pub use meet::MeetGate;
-pub use shares::Shares;
+#[cfg(test)]
+mod tests;
 
 use felm_engine::Bench;
 use felm_term::Memory;
+pub use gate::{FreeGate, Gate};
+pub use meet::MeetGate;
+pub use shares::Shares;
 use std::alloc::Global;
 use std::marker::Brand;
 use std::sync::Wait;

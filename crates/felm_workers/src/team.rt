@@ -60,8 +60,7 @@ pub fn run<
         return Err(Memory);
     };
     let pool = Pool::make(Shared::make(Booked::make(bench, book), claimed, workers));
-    let Team { mut all, counts } =
-        in_scope(rt, alloc, &pool, gate, workers, all, posts, counts);
+    let Team { mut all, counts } = in_scope(rt, alloc, &pool, gate, workers, all, posts, counts);
     let bench = pool.into_booked().close(&mut all);
     Ok((bench, Shares::make(counts)))
 }
@@ -161,9 +160,9 @@ fn work<B: Bench + Drop, G: Gate, L: Ledger, R: Wait>(
 {
     let mut tally = Tally::make(share);
     if pool.shared.lock(rt).admits(place) {
-        if pool.work(rt, alloc, gate, &mut tally).is_err() {
-            pool.end(rt);
-        }
+        // For want of memory it ends alone, else with all others. Some of them may still sleep.
+        let _ended = pool.work(rt, alloc, gate, &mut tally);
+        pool.end(rt);
     }
     tally
 }
