@@ -1,3 +1,5 @@
+ghost use Rattle.std.specs.Prelude.{◌≡◌, ◌≤◌, [], vec_capacity, IfOk};
+
 use crate::gate::Gate;
 use felm_meaning::{Done, Turn, compute};
 use felm_term::Memory;
@@ -43,7 +45,10 @@ impl Hand {
 }
 
 /// An empty list with room for so many items.
-pub fn room_for<T>(alloc: Global, most: u32) -> Result<Vec<T>, Memory> {
+pub fn room_for<T>(alloc: Global, most: u32) -> Result<Vec<T>, Memory>
+    ensures empty { IfOk result (λ items. items.items ≡ []) }
+    ensures room { IfOk result (λ items. most ≤ vec_capacity items) }
+{
     match Vec::with_capacity(alloc, most as usize) {
         Ok(items) => Ok(items),
         Err(_) => Err(Memory),

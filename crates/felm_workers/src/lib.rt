@@ -8,6 +8,7 @@ mod gate;
 mod hand;
 mod meet;
 mod pool;
+mod queue;
 mod shared;
 mod shares;
 mod sleepers;
@@ -17,11 +18,13 @@ mod team;
 mod tests;
 
 use felm_engine::Bench;
+use felm_meaning::Turn;
 use felm_term::Memory;
 pub use gate::{FreeGate, Gate};
 pub use meet::MeetGate;
 pub use shares::Shares;
 use std::alloc::Global;
+use std::collections::VecDeque;
 use std::marker::Brand;
 use std::sync::Wait;
 use std::sync::ledger::Blank;
@@ -47,11 +50,16 @@ pub fn run_bench<B: Bench + Drop + Send, G: Gate + Sync, R: Threads + Wait + Syn
     ensures shares { IfOk result (λ r. length r.1 ≡ workers) }
     ensures exact { IfOk result (λ r. sum r.1 ≡ B.settled r.0) }
 {
-    team::run::<B, G, Brand, R>(
+    let places = workers.saturating_mul(hand::MOST_IN_HAND) as usize;
+    let Ok(claimed) = VecDeque::with_capacity(alloc, places) else {
+        return Err(Memory);
+    };
+    team::run::<B, G, Brand, VecDeque<Turn>, R>(
         rt,
         alloc,
         Blank::new(workers as u64 + 1),
         bench,
+        claimed,
         workers,
         gate,
     )

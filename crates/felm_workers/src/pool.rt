@@ -1,6 +1,7 @@
 use crate::booked::Booked;
 use crate::gate::Gate;
 use crate::hand::Hand;
+use crate::queue::Queue;
 use crate::shared::{Next, Shared};
 use crate::sleepers::Wake;
 use crate::tally::Tally;
@@ -12,14 +13,14 @@ use std::sync::{Condvar, Mutex, Wait};
 
 /// What the workers and the feeder share, and where each side sleeps.
 #[derive(Drop)]
-pub struct Pool<B: Bench + Drop, L: Ledger> {
-    pub shared: Mutex<Shared<B, L>>,
+pub struct Pool<B: Bench + Drop, L: Ledger, Q: Queue + Drop> {
+    pub shared: Mutex<Shared<B, L, Q>>,
     workers: Condvar,
     feeder: Condvar,
 }
 
-impl<B: Bench + Drop, L: Ledger> Pool<B, L> {
-    pub fn make(shared: Shared<B, L>) -> Pool<B, L> {
+impl<B: Bench + Drop, L: Ledger, Q: Queue + Drop> Pool<B, L, Q> {
+    pub fn make(shared: Shared<B, L, Q>) -> Pool<B, L, Q> {
         Pool {
             shared: Mutex::new(shared),
             workers: Condvar::new(),

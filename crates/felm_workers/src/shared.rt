@@ -1,11 +1,10 @@
 use crate::booked::Booked;
 use crate::hand::{Hand, MOST_IN_HAND, put};
+use crate::queue::Queue;
 use crate::sleepers::{Sleepers, Wake};
 use crate::tally::Tally;
 use felm_engine::{Bench, Claim};
-use felm_meaning::Turn;
 use felm_term::Memory;
-use std::collections::VecDeque;
 use std::sync::ledger::Ledger;
 
 /// The feeder enters at most so many events before it lets the lock go.
@@ -24,10 +23,10 @@ pub enum Next {
 
 /// What the workers and the feeder share under one lock.
 #[derive(Drop)]
-pub struct Shared<B: Bench, L: Ledger> {
+pub struct Shared<B: Bench, L: Ledger, Q: Queue> {
     pub booked: Booked<B, L>,
     // Claimed turns that no worker has taken.
-    claimed: VecDeque<Turn>,
+    claimed: Q,
     // How many workers there are, those included that still have to come.
     workers: u32,
     // The place of the worker that is left out.
@@ -36,9 +35,9 @@ pub struct Shared<B: Bench, L: Ledger> {
     ended: bool,
 }
 
-impl<B: Bench, L: Ledger> Shared<B, L> {
-    /// The list has room for a full hand of each worker.
-    pub fn make(booked: Booked<B, L>, claimed: VecDeque<Turn>, workers: u32) -> Shared<B, L> {
+impl<B: Bench, L: Ledger, Q: Queue> Shared<B, L, Q> {
+    /// The queue has room for a full hand of each worker.
+    pub fn make(booked: Booked<B, L>, claimed: Q, workers: u32) -> Shared<B, L, Q> {
         Shared {
             booked,
             claimed,
@@ -90,14 +89,14 @@ impl<B: Bench, L: Ledger> Shared<B, L> {
             return Ok(Next::End);
         }
         self.claim_all()?;
-        if self.claimed.is_empty() {
+        if self.claimed.count() == 0 {
             let feeder = self.sleepers.wake_feeder();
             self.sleepers.add_worker();
             let worker = false;
             return Ok(Next::Sleep(Wake { worker, feeder }));
         }
         for _ in 0..self.part() {
-            let Some(turn) = self.claimed.pop_front() else {
+            let Some(turn) = self.claimed.take() else {
                 break;
             };
             put(&mut hand.turns, turn)?;
@@ -135,7 +134,7 @@ impl<B: Bench, L: Ledger> Shared<B, L> {
         if fed == MOST_FED {
             return Ok(Next::Go(Wake { worker, feeder }));
         }
-        if self.claimed.is_empty() && self.booked.rests() {
+        if self.claimed.count() == 0 && self.booked.rests() {
             return Ok(Next::End);
         }
         self.sleepers.add_feeder();
@@ -152,15 +151,13 @@ impl<B: Bench, L: Ledger> Shared<B, L> {
         Ok(MOST_FED)
     }
 
-    // Claims what is ready, as long as it has a place in the list.
+    // Claims what is ready, as long as it has a place in the queue.
     fn claim_all(&mut self) -> Result<(), Memory> {
-        for _ in self.claimed.len()..self.places() {
+        for _ in self.claimed.count()..self.places() {
             let Claim::Got(turn) = self.booked.claim()? else {
                 break;
             };
-            if self.claimed.push_back(turn).is_err() {
-                return Err(Memory);
-            }
+            self.claimed.put(turn)?;
         }
         Ok(())
     }
@@ -173,12 +170,12 @@ impl<B: Bench, L: Ledger> Shared<B, L> {
     // holds back what another one could compute meanwhile, however heavy a turn is.
     fn part(&self) -> usize {
         let workers = self.workers.max(1) as usize;
-        (self.claimed.len() / workers).clamp(1, MOST_IN_HAND as usize)
+        (self.claimed.count() / workers).clamp(1, MOST_IN_HAND as usize)
     }
 
     // A worker is woken only where there is a turn for it. It wakes the next one.
     fn wake_worker(&mut self) -> bool {
-        !self.claimed.is_empty() && self.sleepers.wake_worker()
+        self.claimed.count() > 0 && self.sleepers.wake_worker()
     }
 
     fn give_up(&mut self) -> Next {

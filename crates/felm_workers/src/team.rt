@@ -2,15 +2,15 @@ ghost use Rattle.std.specs.Prelude.{◌≡◌, ◌+◌, ◌≤◌, [], length, s
 
 use crate::booked::Booked;
 use crate::gate::Gate;
-use crate::hand::{MOST_IN_HAND, room_for};
+use crate::hand::room_for;
 use crate::pool::Pool;
+use crate::queue::Queue;
 use crate::shared::Shared;
 use crate::shares::Shares;
 use crate::tally::Tally;
 use felm_engine::Bench;
 use felm_term::Memory;
 use std::alloc::Global;
-use std::collections::VecDeque;
 use std::sync::Wait;
 use std::sync::ledger::{Blank, Ledger, Share};
 use std::thread;
@@ -31,17 +31,19 @@ struct Team<L: Ledger> {
 }
 
 /// Works on the bench, with a ledger of one part more than there are workers: the last one is this
-/// thread's.
+/// thread's, and with an empty queue that has room for a full hand of each worker.
 pub fn run<
     B: Bench + Drop + Send,
     G: Gate + Sync,
     L: Ledger + Send + Sync,
+    Q: Queue + Drop + Send,
     R: Threads + Wait + Sync,
 >(
     rt: &R,
     alloc: Global,
     blank: Blank,
     bench: B,
+    claimed: Q,
     workers: u32,
     gate: &G,
 ) -> Result<(B, Shares), Memory>
@@ -55,10 +57,6 @@ pub fn run<
     let (book, all) = blank.open::<L>();
     let posts = room_for(alloc, workers)?;
     let counts = room_for(alloc, workers)?;
-    let places = workers.saturating_mul(MOST_IN_HAND) as usize;
-    let Ok(claimed) = VecDeque::with_capacity(alloc, places) else {
-        return Err(Memory);
-    };
     let pool = Pool::make(Shared::make(Booked::make(bench, book), claimed, workers));
     let Team { mut all, counts } = in_scope(rt, alloc, &pool, gate, workers, all, posts, counts);
     let bench = pool.into_booked().close(&mut all);
@@ -71,11 +69,12 @@ fn in_scope<
     B: Bench + Drop + Send,
     G: Gate + Sync,
     L: Ledger + Send + Sync,
+    Q: Queue + Drop + Send,
     R: Threads + Wait + Sync,
 >(
     rt: &'x R,
     alloc: Global,
-    pool: &'x Pool<B, L>,
+    pool: &'x Pool<B, L, Q>,
     gate: &'x G,
     workers: u32,
     all: Share<L>,
@@ -113,12 +112,13 @@ fn start<
     B: Bench + Drop + Send,
     G: Gate + Sync,
     L: Ledger + Send + Sync,
+    Q: Queue + Drop + Send,
     R: Threads + Wait + Sync,
 >(
     scope: &Scope<'s, E>,
     rt: &'r R,
     alloc: Global,
-    pool: &'s Pool<B, L>,
+    pool: &'s Pool<B, L, Q>,
     gate: &'g G,
     workers: u32,
     all: &mut Share<L>,
@@ -148,10 +148,10 @@ fn start<
 }
 
 // What a worker does from its start to its end. One that is left out only gives its share back.
-fn work<B: Bench + Drop, G: Gate, L: Ledger, R: Wait>(
+fn work<B: Bench + Drop, G: Gate, L: Ledger, Q: Queue + Drop, R: Wait>(
     rt: &R,
     alloc: Global,
-    pool: &Pool<B, L>,
+    pool: &Pool<B, L, Q>,
     gate: &G,
     place: u32,
     share: Share<L>,

@@ -106,8 +106,14 @@ fn every_turn_passes_the_gate_and_is_settled(rt: HostRuntime) -> Result<(), Memo
             let gate = CountingGate {
                 passes: AtomicU64::new(0),
             };
-            let (line, shares) =
-                worked(&rt, rt.alloc(), shape, watch(rt.alloc())?, workers, &gate)?;
+            let (line, shares) = worked(
+                &rt,
+                rt.alloc(),
+                shape,
+                watch(rt.alloc())?,
+                workers,
+                &gate,
+            )?;
             let turns = u64::from(shape.nodes) * shape.events;
             assert!(&rt; line.is_done(), "{workers} on {shape:?}");
             assert_eq!(&rt; shares.total(), turns, "{workers} on {shape:?}");
@@ -153,8 +159,14 @@ fn want_of_memory_and_a_stop_end_the_work(rt: HostRuntime) -> Result<(), Memory>
                 call,
                 ..plain(5, 2, 100)
             };
-            let (line, _shares) =
-                worked(&rt, rt.alloc(), shape, watch(rt.alloc())?, workers, &FreeGate)?;
+            let (line, _shares) = worked(
+                &rt,
+                rt.alloc(),
+                shape,
+                watch(rt.alloc())?,
+                workers,
+                &FreeGate,
+            )?;
             assert!(&rt; line.was_struck(), "{workers} on {shape:?}");
             assert!(&rt; !line.is_done(), "{workers} on {shape:?}");
         }

@@ -95,7 +95,10 @@ impl Nodes {
     // Whether there is room behind a node. The last one has readers without edges.
     fn has_room(&self, node: u32) -> bool {
         node == self.shape.nodes
-            || self.sent(node).saturating_sub(self.sent(node.saturating_add(1))) < self.shape.edge
+            || self
+                .sent(node)
+                .saturating_sub(self.sent(node.saturating_add(1)))
+                < self.shape.edge
     }
 
     fn is_ready(&self, node: u32) -> bool {
