@@ -4,6 +4,7 @@
 ghost use Rattle.std.specs.Prelude.{◌≡◌, ◌≤◌, length, sum, IfOk};
 
 mod booked;
+mod crossing;
 mod gate;
 mod hand;
 mod meet;
@@ -54,6 +55,7 @@ pub fn run_bench<B: Bench + Drop + Send, G: Gate + Sync, R: Threads + Wait + Syn
     let Ok(claimed) = VecDeque::with_capacity(alloc, places) else {
         return Err(Memory);
     };
+    crossing::turns_cross();
     team::run::<B, G, Brand, VecDeque<Turn>, R>(
         rt,
         alloc,
