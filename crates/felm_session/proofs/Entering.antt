@@ -1,12 +1,11 @@
 -- What a session enters may come in, and what its calls then answer.
-use Rattle.std.proofs.Common.{◌≡◌, ℕ, suc, zero, get_or, ◌+◌, ◌<◌, ◌≤◌, ◌⊎◌, inl, inr, Option, Some, None, Ok, Err, Result, IfOk, OnErr, List, [], ◌∷◌, ◌++◌, length, refl, sym, ap, ◌∙◌, subst, arith}
+use Rattle.std.proofs.Common.{◌≡◌, ℕ, suc, zero, get_or, ◌+◌, ◌<◌, ◌≤◌, ◌⊎◌, inl, inr, Option, Some, None, List, [], ◌∷◌, ◌++◌, length, refl, sym, ap, ◌∙◌, subst, arith}
 use Rattle.std.specs.List.{slice_get}
 use Rattle.std.specs.Option.{option_map_or, option_and_then}
 use Rattle.std.proofs.lemmas.Bool.{cases_eq, cases_lt}
 use Rattle.std.proofs.lemmas.Option.{none-some, slice_get-get_or}
 use Rattle.felm_term.specs.declared.value.Value.{Value}
 use Rattle.felm_term.specs.declared.event.Event.{Event}
-use Rattle.felm_term.specs.declared.memory.Memory.{Memory}
 use Rattle.felm_graph.specs.Graphs.{IsGraph}
 use Rattle.felm_graph.specs.declared.node.Node.{Node}
 use Rattle.felm_graph.specs.declared.node.NodeKind.{NodeKind}
@@ -16,11 +15,11 @@ use Rattle.felm_meaning.specs.Nodes.{inner, inner_of_kind}
 use Rattle.felm_meaning.specs.OfPlans.{IsLegalFor}
 use Rattle.felm_meaning.specs.Journals.{entered}
 use Rattle.felm_meaning.specs.Types.{EventsFit}
-use Rattle.felm_meaning.proofs.Rows.{slice_get_last, item_within}
+use Rattle.felm_meaning.proofs.Rows.{slice_get_last}
 use Rattle.felm_meaning.proofs.Fronts.{changes-later}
 use Rattle.felm_meaning.proofs.Legal.{async_is_source, input_is_source, legal-async}
 use Rattle.felm_meaning.proofs.Fitting.{script_fits, legal_fits}
-use Rattle.felm_core.specs.Positions.{Position, done_at, IsSound}
+use Rattle.felm_core.specs.Positions.{done_at, IsSound}
 use Rattle.felm_core.specs.Contents.{waiting_at}
 use Rattle.felm_core.specs.Moves.{Move, Feed, Enter}
 use Rattle.felm_core.proofs.Runs.{waits_first, inner_there}
@@ -33,8 +32,8 @@ use Rattle.felm_engine.specs.declared.answers.Entered.{Entered}
 use Rattle.felm_engine.specs.declared.answers.Entered.TheVariants as entered
 use Rattle.felm_engine.specs.declared.answers.Fed.{Fed}
 use Rattle.felm_engine.specs.declared.answers.Fed.TheVariants as fed
-use Rattle.felm_session.specs.SessionValue.{SessionValue, script_of, IsInStep}
-use Rattle.felm_session.specs.Answers.{Waits, NoneWaits, IsLeastWaiting, FedAs, EnteredAt, EnteredNext}
+use Rattle.felm_session.specs.SessionValue.{SessionValue, IsInStep}
+use Rattle.felm_session.specs.Answers.{Waits, NoneWaits, IsLeastWaiting, EnteredAt, EnteredNext}
 use Rattle.felm_session.proofs.Stepping.{moved_in_step, same_in_step}
 
 -- ---- what may come in

@@ -1,20 +1,17 @@
 -- Where the limit is ample, no feed and no entry of a session answers Full.
-use Rattle.std.proofs.Common.{◌≡◌, ℕ, ◌<◌, ◌≤◌, Some, None, length, sym, ap, ◌∙◌, subst, arith}
+use Rattle.std.proofs.Common.{◌≡◌, ℕ, ◌<◌, length, ap, ◌∙◌, arith}
 use Rattle.std.specs.List.{slice_get}
-use Rattle.felm_term.specs.declared.event.Event.{Event}
 use Rattle.felm_graph.specs.Graphs.{IsGraph}
 use Rattle.felm_meaning.specs.OfPlans.{IsLegalFor}
-use Rattle.felm_meaning.specs.Journals.{inputs_in}
 use Rattle.felm_meaning.proofs.Rows.{item_within}
 use Rattle.felm_meaning.proofs.Fitting.{script_fits}
 use Rattle.felm_core.specs.Positions.{IsSound}
 use Rattle.felm_core.proofs.Room.{place_to_feed, place_to_enter}
-use Rattle.felm_engine.specs.EngineValue.{EngineValue}
 use Rattle.felm_engine.specs.Answers.{planned}
 use Rattle.felm_engine.specs.declared.answers.Fed.{Fed}
 use Rattle.felm_engine.specs.declared.answers.Fed.TheVariants as fed
 use Rattle.felm_session.specs.SessionValue.{SessionValue, script_of, IsInStep}
-use Rattle.felm_session.specs.Answers.{IsLeft, Waits, IsAtLimit, IsAmple, NeverFull, FedAs, EnteredAt, EnteredNext}
+use Rattle.felm_session.specs.Answers.{IsLeft, Waits, IsAtLimit, IsAmple, FedAs, EnteredAt}
 use Rattle.felm_session.proofs.Stepping.{cursor_counts}
 
 -- Full comes where an event could come in at the limit; if that can't be, it doesn't come

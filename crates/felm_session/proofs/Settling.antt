@@ -1,6 +1,5 @@
 -- How many messages each call of a session settles.
-use Rattle.std.proofs.Common.{◌≡◌, ℕ, suc, zero, ◌+◌, Some, None, Ok, Err, Result, IfOk, OnErr, refl, sym, ap, ◌∙◌, subst, arith}
-use Rattle.felm_term.specs.declared.event.Event.{Event}
+use Rattle.std.proofs.Common.{◌≡◌, ℕ, suc, ◌+◌, Ok, Err, Result, IfOk, OnErr, refl, sym, ap, ◌∙◌, arith}
 use Rattle.felm_term.specs.declared.memory.Memory.{Memory}
 use Rattle.felm_graph.specs.Graphs.{IsGraph}
 use Rattle.felm_meaning.specs.declared.plan.Plan.{Plan}
@@ -12,7 +11,7 @@ use Rattle.felm_meaning.specs.Plans.{plan_of}
 use Rattle.felm_meaning.proofs.Legal.{async_is_source, input_is_source}
 use Rattle.felm_core.specs.Positions.{Position, IsSound}
 use Rattle.felm_core.specs.Contents.{settled_at}
-use Rattle.felm_core.specs.Moves.{Move, Feed, Enter, Claim, Send, Stop, Reopen, Leads, with_next}
+use Rattle.felm_core.specs.Moves.{Move, Feed, Enter, Claim, Send, Stop, Reopen, Leads}
 use Rattle.felm_core.proofs.Runs.{waits_first}
 use Rattle.felm_core.proofs.Sent.{sent_settled}
 use Rattle.felm_core.proofs.Entered.{next_settled}
@@ -26,7 +25,7 @@ use Rattle.felm_engine.specs.declared.answers.Deposit.TheVariants.{Settled, Reop
 use Rattle.felm_engine.specs.declared.answers.Fed.{Fed}
 use Rattle.felm_engine.specs.declared.answers.Fed.TheVariants as fed
 use Rattle.felm_session.specs.SessionValue.{SessionValue, settled_in}
-use Rattle.felm_session.specs.Answers.{FedAs, EnteredAt, EnteredNext}
+use Rattle.felm_session.specs.Answers.{FedAs, EnteredAt}
 
 -- how many messages a move settles
 abbrev pub turns_in : Move → ℕ

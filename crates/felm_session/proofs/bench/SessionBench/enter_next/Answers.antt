@@ -12,7 +12,7 @@ pub returns-in-Some-clause-ok : goal.returns-in-Some-clause-ok
 returns-in-Some-clause-ok c =
     IfOk-weaker c.enter.result _ _
     (λ (answer : Fed) (h : EnteredAt c.args.self.now c.in-Some.node c.enter.new.self answer).
-        entered_next c.args.self.now c.enter.new.self c.in-Some.node answer c.in-Some.ensures h)
+    entered_next c.args.self.now c.enter.new.self c.in-Some.node answer c.in-Some.ensures h)
     c.enter.ensures.ok
 
 pub returns-in-Some-clause-settled : goal.returns-in-Some-clause-settled

@@ -1,4 +1,4 @@
-use Rattle.std.proofs.Common.{◌≡◌, ◌+◌, ◌<◌, Some, refl, sym, ◌∙◌, subst, arith}
+use Rattle.std.proofs.Common.{◌≡◌, ◌+◌, Some, refl, sym, ◌∙◌, subst, arith}
 use Rattle.std.specs.List.{slice_get}
 use Rattle.std.proofs.lemmas.Option.{slice_get_within}
 use Rattle.felm_core.specs.Moves.{Feed}
@@ -57,9 +57,11 @@ returns-in-NoRoom-clause-ok c =
     (sym c.in_ok-event.ensures ∙ c.in-Some.is) in
     let h = subst (EnteredAs c.self.inside.engine c.in-Some.event c.dispatch.new.self) c.in-NoRoom.is c.in_ok-position.ensures.ok in
     let new : SessionValue = record { engine = c.dispatch.new.self; cursor = c.self.inside.cursor } in
-    subst (λ (s : SessionValue). IsLeft s × IsBlocked s.engine × (new ≡ s)) c.self.view_is
-    (slice_get_within c.self.inside.engine.plan.script.items c.self.inside.cursor c.in-Some.event next, (h.0, h.1),
-      same_session (session_of c.self.inside) new h.2 refl)
+    subst (λ (s : SessionValue). IsLeft s × IsBlocked s.engine × (new ≡ s)) c.self.view_is (
+      slice_get_within c.self.inside.engine.plan.script.items c.self.inside.cursor c.in-Some.event next,
+      (h.0, h.1),
+      same_session (session_of c.self.inside) new h.2 refl,
+    )
 
 pub returns-in-Full-clause-ok : goal.returns-in-Full-clause-ok
 returns-in-Full-clause-ok c =
@@ -67,9 +69,11 @@ returns-in-Full-clause-ok c =
     (sym c.in_ok-event.ensures ∙ c.in-Some.is) in
     let h = subst (EnteredAs c.self.inside.engine c.in-Some.event c.dispatch.new.self) c.in-Full.is c.in_ok-position.ensures.ok in
     let new : SessionValue = record { engine = c.dispatch.new.self; cursor = c.self.inside.cursor } in
-    subst (λ (s : SessionValue). IsLeft s × IsAtLimit s.engine × (new ≡ s)) c.self.view_is
-    (slice_get_within c.self.inside.engine.plan.script.items c.self.inside.cursor c.in-Some.event next, h.0,
-      same_session (session_of c.self.inside) new h.1 refl)
+    subst (λ (s : SessionValue). IsLeft s × IsAtLimit s.engine × (new ≡ s)) c.self.view_is (
+      slice_get_within c.self.inside.engine.plan.script.items c.self.inside.cursor c.in-Some.event next,
+      h.0,
+      same_session (session_of c.self.inside) new h.1 refl,
+    )
 
 pub returns-in-Full-clause-never_full : goal.returns-in-Full-clause-never_full
 returns-in-Full-clause-never_full c =
@@ -80,5 +84,5 @@ returns-in-Full-clause-never_full c =
     let new : SessionValue = record { engine = c.dispatch.new.self; cursor = c.self.inside.cursor } in
     subst (λ (s : SessionValue). NeverFull (planned s.engine) fed.Full) c.self.view_is
     (λ ample same. feed_not_full old c.sound.ensures.graph c.sound.ensures.sound
-        (in_step_legal c.self.inside.engine c.self.inside.cursor c.sound.ensures.sound c.self.invariant) c.self.invariant ample new fed.Full
-        (slice_get_within c.self.inside.engine.plan.script.items c.self.inside.cursor c.in-Some.event next, h.0, same_session old new h.1 refl) same)
+    (in_step_legal c.self.inside.engine c.self.inside.cursor c.sound.ensures.sound c.self.invariant) c.self.invariant ample new fed.Full
+    (slice_get_within c.self.inside.engine.plan.script.items c.self.inside.cursor c.in-Some.event next, h.0, same_session old new h.1 refl) same)

@@ -15,7 +15,7 @@ use Rattle.felm_session.proofs.session.Session.enter.Goals as goal
 pub returns-in_default-clause-ok : goal.returns-in_default-clause-ok
 returns-in_default-clause-ok c = (
   subst (λ (s : SessionValue). NoneWaits s.engine c.args.node) c.self.view_is
-  (none_first (waiting_at (planned c.self.inside.engine) c.self.inside.engine.position c.args.node)
+      (none_first (waiting_at (planned c.self.inside.engine) c.self.inside.engine.position c.args.node)
       (sym c.waiting_first.ensures ∙ ap (λ (o : Option (Bor Value)). option_copied o) c.in_default.is)),
   refl,
 )
@@ -40,7 +40,7 @@ returns-clause-never_full c =
     let new : SessionValue = record { engine = c.dispatch.new.self; cursor = c.self.inside.cursor } in
     subst (λ (s : SessionValue). NeverFull (planned s.engine) c.from.result) c.self.view_is
     (λ ample full. enter_not_full old c.sound.ensures.graph c.sound.ensures.sound
-        (in_step_legal c.self.inside.engine c.self.inside.cursor c.sound.ensures.sound c.self.invariant) c.self.invariant ample c.args.node new
-        (fed_of c.in_ok-entered.entered)
-        (entered_at old new c.args.node c.in_ok-value.value w.0 c.in_ok-entered.entered w.1 first refl c.in_ok-entered.ensures.ok)
-        (sym c.from.ensures ∙ full))
+    (in_step_legal c.self.inside.engine c.self.inside.cursor c.sound.ensures.sound c.self.invariant) c.self.invariant ample c.args.node new
+    (fed_of c.in_ok-entered.entered)
+    (entered_at old new c.args.node c.in_ok-value.value w.0 c.in_ok-entered.entered w.1 first refl c.in_ok-entered.ensures.ok)
+    (sym c.from.ensures ∙ full))
