@@ -114,7 +114,7 @@ fn every_turn_passes_the_gate_and_is_settled(rt: HostRuntime) -> Result<(), Memo
                 workers,
                 &gate,
             )?;
-            let turns = u64::from(shape.nodes) * shape.events;
+            let turns = u64::from(shape.nodes).wrapping_mul(shape.events);
             assert!(&rt; line.is_done(), "{workers} on {shape:?}");
             assert_eq!(&rt; shares.total(), turns, "{workers} on {shape:?}");
             let passes = gate.passes.load(Ordering::SeqCst);
