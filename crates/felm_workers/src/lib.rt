@@ -15,8 +15,6 @@ mod shares;
 mod sleepers;
 mod tally;
 mod team;
-#[cfg(test)]
-mod tests;
 
 use felm_engine::Bench;
 use felm_meaning::Turn;
