@@ -1,5 +1,6 @@
 //! Workers on a bench in memory.
 mod line;
+mod looks;
 
 ghost use Rattle.std.specs.Prelude.{◌≡◌, ◌≤◌};
 
