@@ -2,6 +2,8 @@
 #![tactic(auto)]
 
 mod bench;
+mod conclude;
 mod session;
 
+pub use conclude::{Concluded, conclude};
 pub use session::{Begun, Session};
