@@ -16,11 +16,12 @@ use Rattle.felm_meaning.specs.Plans.{plan_of, SamePlan}
 use Rattle.felm_meaning.specs.PlanValue.{PlanValue}
 use Rattle.felm_meaning.specs.OfPlans.{val_for, sends_for, IsLegalFor, IsCompleteFor, IsFullFor, IsStoppedFor}
 use Rattle.felm_meaning.specs.Meaning.{msg, val, IsThere}
+use Rattle.felm_meaning.specs.Histories.{IsHistoryFor, IsConcluded, journal_of}
 use Rattle.felm_meaning.specs.Presets.{IsPreset}
 use Rattle.felm_meaning.specs.Ends.{IsOver}
 use Rattle.felm_meaning.specs.declared.preset.Preset.TheVariants as preset
 use Rattle.felm_meaning.proofs.Legal.{legal-nothing}
-use Rattle.felm_core.specs.Positions.{StopValue, Position, IsSound, IsReady, IsSettled}
+use Rattle.felm_core.specs.Positions.{StopValue, Position, done_at, IsSound, IsReady, IsSettled}
 use Rattle.felm_core.specs.Contents.{settled_at, waiting_at, outputs_at, turning}
 use Rattle.felm_core.specs.Moves.{Runs, beginning}
 use Rattle.felm_core.proofs.Sticks.{never_sticks, settled_room, settled_shown}
@@ -32,7 +33,7 @@ use Rattle.felm_engine.specs.EngineValue.{EngineValue}
 use Rattle.felm_engine.specs.Answers.{planned, NoneOut, LacksRoom}
 use Rattle.felm_session.specs.SessionValue.{SessionValue, script_of, IsInStep}
 use Rattle.felm_session.specs.Answers.{IsLeft, Waits, NoneWaits, IsAtLimit}
-use Rattle.felm_session.specs.Concluding.{IsHistoryFor, IsConcluded, journal_of, IsWhole, RestsAt, GoesOn, Reaches}
+use Rattle.felm_session.specs.Concluding.{RestsAt, GoesOn, Reaches}
 use Rattle.felm_session.specs.declared.conclude.Rest.{Rest}
 use Rattle.felm_session.specs.declared.conclude.Rest.TheVariants as rest
 use Rattle.felm_session.proofs.Stepping.{cursor_counts}
@@ -87,28 +88,31 @@ default_same g b i j k = refl
 pub stopped_end : (engine : EngineValue) (journal : Spared Event) (node position : ℕ) → IsGraph engine.plan.graph
     → IsSound (planned engine) engine.position → IsLegalFor (planned engine) engine.position.journal → journal.items ≡ engine.position.journal
     → engine.position.stop ≡ Some (record { node = node; position = position }) → IsConcluded (planned engine) (end.Stopped journal node position)
-stopped_end engine journal node position graph sound legal same stop = (
-  record {
+stopped_end engine journal node position graph sound legal same stop = record {
+  stopped = record {
     legal = subst (IsLegalFor (planned engine)) (sym same) legal;
     over =
         subst (λ (j : List Event). IsOver engine.plan.graph engine.plan.limits.turn_steps j node position) (sym same)
         (stop_is_over (planned engine) engine.position graph sound (record { node = node; position = position }) stop);
-  },
-  λ later. sound.defaults,
-)
+  };
+  before_events = λ first. let next : position ≡ suc (done_at engine.position.done node) = (sound.stops (record { node = node; position = position }) stop).next in
+      absurd (omega (arith, next, first));
+  past_defaults = λ later. sound.defaults;
+}
 
 -- a run whose plan has a node without a default stops at once
 pub stopped_at_once : (plan : Plan) (journal : Spared Event) (node : ℕ) → journal.items ≡ []
     → IsPreset plan.graph plan.limits.turn_steps (preset.Over node) → IsConcluded (plan_of plan) (end.Stopped journal node 0)
-stopped_at_once plan journal node empty h = (
-  record {
+stopped_at_once plan journal node empty h = record {
+  stopped = record {
     legal = subst (IsLegalFor (plan_of plan)) (sym empty) (legal-nothing plan.graph plan.limits.turn_steps plan.script.items);
     over =
         subst (λ (j : List Event). IsOver plan.graph plan.limits.turn_steps j node 0) (sym empty)
         (record { node = h.0; none = h.1; least = h.2 });
-  },
-  λ later. absurd (omega (arith, later)),
-)
+  };
+  before_events = λ first. empty;
+  past_defaults = λ later. absurd (omega (arith, later));
+}
 
 -- ---- histories
 
@@ -117,6 +121,7 @@ pub history_of : (engine : EngineValue) (h : History) → IsGraph engine.plan.gr
     → h.outputs.items ≡ outputs_at (planned engine) engine.position
     → val_for (planned engine) [] engine.plan.graph.main 0 ≡ Some h.default → IsHistoryFor (planned engine) h
 history_of engine h graph sound settled journal outputs preset = record {
+  journal = refl;
   default = default_same engine.plan.graph engine.plan.limits.turn_steps h.journal.items [] engine.plan.graph.main ∙ preset;
   outputs =
       outputs ∙
@@ -134,11 +139,6 @@ full_end engine h full journal history = (subst (IsFullFor (planned engine)) (sy
 
 -- ---- the way to the end
 
-whole_settled : (s : PlanValue) (d : Position) (e : RunEnd) → RestsAt s d e → IsWhole e → IsSettled s d
-whole_settled s d (end.Complete h) rests whole = rests
-whole_settled s d (end.Stopped journal node position) rests whole = absurd whole
-whole_settled s d (end.Full h) rests whole = rests
-
 -- a run from one engine to another that rests
 pub gone_on : (start last : EngineValue) (before after own : ℕ) (e : RunEnd) → IsGraph start.plan.graph
     → IsSound (planned start) start.position → Reaches start last → journal_of e ≡ last.position.journal
@@ -153,7 +153,7 @@ gone_on start last before after own e graph sound reaches journal rests was is c
   rests = there;
   grows = (grown.0, journal ∙ grown.1);
   turns = turns;
-  all_taken = λ whole. sym turns ∙ (settled_all (planned start) last.position graph sound' (whole_settled (planned start) last.position e there whole) ∙
+  all_taken = λ settled. sym turns ∙ (settled_all (planned start) last.position graph sound' settled ∙
       ap (λ (j : List Event). length j * turning start.plan.graph.nodes (length start.plan.graph.nodes)) (sym journal));
 }
   where

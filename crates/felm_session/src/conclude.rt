@@ -2,12 +2,12 @@
 ghost use Rattle.std.specs.Prelude.{◌≡◌, ℕ, [], Some, IfOk};
 ghost use Rattle.felm_graph.specs.Graphs.{IsGraph};
 ghost use Rattle.felm_meaning.specs.OfPlans.{DefaultsThereFor, val_for};
-ghost use Rattle.felm_meaning.specs.Plans.{plan_of, SamePlan};
-ghost use Rattle.felm_core.specs.Moves.{beginning};
+ghost use Rattle.felm_meaning.specs.Plans.{plan_of};
+ghost use Rattle.felm_meaning.specs.Histories.{IsHistoryFor, IsConcluded, journal_of};
 ghost use Rattle.felm_core.specs.Positions.{IsSettled};
 ghost use Rattle.felm_engine.specs.Answers.{planned, NoneOut};
 ghost use Rattle.felm_session.specs.Answers.{NoneWaits};
-ghost use Rattle.felm_session.specs.Concluding.{IsHistoryFor, IsConcluded, journal_of, RestsAt, GoesOn, Reaches, TurnTaken, Rests, StepsAs};
+ghost use Rattle.felm_session.specs.Concluding.{RestsAt, GoesOn, GoesOnWhereItStood, BeginsAnew, Reaches, TurnTaken, Rests, StepsAs};
 
 use crate::session::{Begun, Session};
 use felm_engine::{Bench, Claim, Fed, Stop};
@@ -36,12 +36,12 @@ pub enum Rest {
 
 /// Concludes the run of a plan. It goes on from where the session stands, or anew where the session
 /// runs another plan: turns that are out are taken back, and what is left is done on the caller's
-/// thread. Memory is wanted for the events' values that wait or are fed, for turns, and for the
-/// default of the shown node.
+/// thread. Memory is wanted for the events' values that wait or are fed, for turns, for the
+/// defaults, and for the engine of a run that begins anew.
 pub fn conclude(alloc: Global, returned: Session, plan: Plan) -> Result<Concluded, Memory>
     ensures end { IfOk result (λ concluded. IsConcluded (plan_of plan) concluded.end) }
-    ensures goes_on { IfOk result (λ concluded. SamePlan returned.engine.plan plan → GoesOn (plan_of plan) returned.engine.position concluded) }
-    ensures anew { IfOk result (λ concluded. ¬ SamePlan returned.engine.plan plan → GoesOn (plan_of plan) (beginning plan.graph) concluded) }
+    ensures goes_on { IfOk result (GoesOnWhereItStood returned plan) }
+    ensures anew { IfOk result (BeginsAnew returned plan) }
 {
     if same_plan(returned.engine().plan(), &plan) {
         return finish(alloc, returned);
@@ -80,7 +80,7 @@ fn go_on(alloc: Global, session: &mut Session) -> Result<Rest, Memory>
     ensures reaches { IfOk result (λ rest. Reaches session.old.engine session.new.engine) }
     ensures rests { IfOk result (Rests session.new.engine) }
 {
-    loop {
+    'steps: loop {
         if let Some(rest) = step(alloc, session)? {
             return Ok(rest);
         }
