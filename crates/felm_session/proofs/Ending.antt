@@ -15,7 +15,7 @@ use Rattle.felm_meaning.specs.declared.history.RunEnd.TheVariants as end
 use Rattle.felm_meaning.specs.Plans.{plan_of, SamePlan}
 use Rattle.felm_meaning.specs.PlanValue.{PlanValue}
 use Rattle.felm_meaning.specs.OfPlans.{val_for, sends_for, IsLegalFor, IsCompleteFor, IsFullFor, IsStoppedFor}
-use Rattle.felm_meaning.specs.Meaning.{msg, val, IsThere}
+use Rattle.felm_meaning.specs.Meaning.{row, msg, val, IsThere}
 use Rattle.felm_meaning.specs.Histories.{IsHistoryFor, IsConcluded, journal_of}
 use Rattle.felm_meaning.specs.Presets.{IsPreset}
 use Rattle.felm_meaning.specs.Ends.{IsOver}
@@ -34,8 +34,8 @@ use Rattle.felm_engine.specs.Answers.{planned, NoneOut, LacksRoom}
 use Rattle.felm_session.specs.SessionValue.{SessionValue, script_of, IsInStep}
 use Rattle.felm_session.specs.Answers.{IsLeft, Waits, NoneWaits, IsAtLimit}
 use Rattle.felm_session.specs.Concluding.{RestsAt, GoesOn, Reaches}
-use Rattle.felm_session.specs.declared.conclude.Rest.{Rest}
-use Rattle.felm_session.specs.declared.conclude.Rest.TheVariants as rest
+use Rattle.felm_session.specs.declared.conclusion.Rest.{Rest}
+use Rattle.felm_session.specs.declared.conclusion.Rest.TheVariants as rest
 use Rattle.felm_session.proofs.Stepping.{cursor_counts}
 use Rattle.felm_session.proofs.Running.{run_settles}
 
@@ -82,7 +82,7 @@ waiting_full engine a graph sound legal settled waits full =
 
 -- the default of a node doesn't depend on the journal
 pub default_same : (g : GraphValue) (b : ℕ) (i j : List Event) (k : ℕ) → val g b i k 0 ≡ val g b j k 0
-unfolding val msg
+unfolding val msg row
 default_same g b i j k = refl
 
 pub stopped_end : (engine : EngineValue) (journal : Spared Event) (node position : ℕ) → IsGraph engine.plan.graph

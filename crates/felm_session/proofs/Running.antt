@@ -86,16 +86,19 @@ reopenings zero = []
 reopenings (suc n) = reopenings n ++ Reopen n ∷ []
 
 reopening_runs : (s : PlanValue) (c : Position) (n : ℕ) → Runs s c (reopenings n) (record c { out = cleared c.out n })
+unfolding reopenings cleared
 reopening_runs s c zero = refl
 reopening_runs s c (suc n) =
     runs_then s c (reopenings n) (record c { out = cleared c.out n }) (Reopen n ∷ []) (record c { out = cleared c.out (suc n) }) (reopening_runs s c n)
     (record c { out = cleared c.out (suc n) }, refl, refl)
 
 length-cleared : (out : List Bool) (n : ℕ) → length (cleared out n) ≡ length out
+unfolding cleared
 length-cleared out zero = refl
 length-cleared out (suc n) = length-set (cleared out n) n false ∙ length-cleared out n
 
 cleared_at : (out : List Bool) (n k : ℕ) (d : Bool) → k < n → k < length out → get_or (cleared out n) k d ≡ false
+unfolding cleared
 cleared_at out zero k d l m = absurd (omega arith)
 cleared_at out (suc n) k d l m = go (cases_eq k n) (cleared_at out n k d)
   where

@@ -15,9 +15,9 @@ use Rattle.felm_engine.specs.EngineValue.{EngineValue}
 use Rattle.felm_engine.specs.Answers.{planned, NoneOut}
 use Rattle.felm_engine.specs.Stops.{stop_of}
 use Rattle.felm_session.specs.SessionValue.{SessionValue}
-use Rattle.felm_session.specs.declared.conclude.Concluded.{Concluded}
-use Rattle.felm_session.specs.declared.conclude.Rest.{Rest}
-use Rattle.felm_session.specs.declared.conclude.Rest.TheVariants as rest
+use Rattle.felm_session.specs.declared.conclusion.Concluded.{Concluded}
+use Rattle.felm_session.specs.declared.conclusion.Rest.{Rest}
+use Rattle.felm_session.specs.declared.conclusion.Rest.TheVariants as rest
 
 -- ---- ends
 

@@ -2,8 +2,8 @@
 #![tactic(auto)]
 
 mod bench;
-mod conclude;
+mod conclusion;
 mod session;
 
-pub use conclude::{Concluded, conclude};
+pub use conclusion::{Concluded, conclude};
 pub use session::{Begun, Session};
