@@ -29,6 +29,7 @@ use Rattle.felm_core.proofs.Runs.{run_sound}
 use Rattle.felm_core.proofs.Scripted.{run_grows}
 use Rattle.felm_core.proofs.Ends.{stop_is_over, rests_complete, rests_full}
 use Rattle.felm_core.proofs.Measures.{settled_all}
+use Rattle.felm_core.proofs.Stays.{begin_settled}
 use Rattle.felm_engine.specs.EngineValue.{EngineValue}
 use Rattle.felm_engine.specs.Answers.{planned, NoneOut, LacksRoom}
 use Rattle.felm_session.specs.SessionValue.{SessionValue, script_of, IsInStep}
@@ -114,6 +115,24 @@ stopped_at_once plan journal node empty h = record {
   past_defaults = λ later. absurd (omega (arith, later));
 }
 
+-- and doesn't leave the beginning
+pub stays_put : (plan : Plan) (journal : Spared Event) (node : ℕ) → journal.items ≡ []
+    → GoesOn (plan_of plan) (beginning plan.graph) (record { end = end.Stopped journal node 0; own_turns = 0 })
+stays_put plan journal node empty = record {
+  moves = [];
+  last = beginning plan.graph;
+  runs = refl;
+  journal = empty;
+  rests = λ later. absurd (omega (arith, later));
+  grows = ([], empty);
+  turns = omega arith;
+  all_taken = λ settled.
+      let nothing : length journal.items ≡ 0 = ap length empty in
+      let none : settled_at (plan_of plan) (beginning plan.graph) + 0 ≡ 0 * turning plan.graph.nodes (length plan.graph.nodes) =
+      omega (arith, begin_settled (plan_of plan)) in
+      none ∙ ap (λ (n : ℕ). n * turning plan.graph.nodes (length plan.graph.nodes)) (sym nothing);
+}
+
 -- ---- histories
 
 pub history_of : (engine : EngineValue) (h : History) → IsGraph engine.plan.graph → IsSound (planned engine) engine.position
@@ -138,6 +157,15 @@ pub full_end : (engine : EngineValue) (h : History) → IsFullFor (planned engin
 full_end engine h full journal history = (subst (IsFullFor (planned engine)) (sym journal) full, history)
 
 -- ---- the way to the end
+
+pub settles_on : (start last : EngineValue) → IsGraph start.plan.graph → IsSound (planned start) start.position → Reaches start last
+    → settled_at (planned start) start.position ≤ settled_at (planned last) last.position
+settles_on start last graph sound reaches =
+    let l : settled_at (planned start) start.position ≤ settled_at (planned start) last.position =
+    run_settles (planned start) start.position reaches.moves last.position graph sound reaches.runs in
+    let same : settled_at (planned last) last.position ≡ settled_at (planned start) last.position =
+    ap (λ (plan : Plan). settled_at (plan_of plan) last.position) reaches.plan in
+    omega (arith, l, same)
 
 -- a run from one engine to another that rests
 pub gone_on : (start last : EngineValue) (before after own : ℕ) (e : RunEnd) → IsGraph start.plan.graph
@@ -168,8 +196,8 @@ gone_on start last before after own e graph sound reaches journal rests was is c
 
     turns : settled_at (planned start) last.position ≡ settled_at (planned start) start.position + own
     turns =
-        let l : settled_at (planned start) start.position ≤ settled_at (planned start) last.position =
-        run_settles (planned start) start.position reaches.moves last.position graph sound reaches.runs in
+        let l : settled_at (planned start) start.position ≤ settled_at (planned last) last.position =
+        settles_on start last graph sound reaches in
         let same : settled_at (planned last) last.position ≡ settled_at (planned start) last.position =
         ap (λ (plan : Plan). settled_at (plan_of plan) last.position) reaches.plan in
         omega (arith, l, same, was, is, count)

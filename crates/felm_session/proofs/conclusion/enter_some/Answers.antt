@@ -13,8 +13,7 @@ returns-in-At c =
 
 pub returns-in-Full : goal.returns-in-Full
 returns-in-Full c =
-    let h = subst (EnteredNext c.args.session.now c.enter_next.new.self) c.in-Full.is c.in_ok-enter_next.ensures.ok in
-    (
+    let h = subst (EnteredNext c.args.session.now c.enter_next.new.self) c.in-Full.is c.in_ok-enter_next.ensures.ok in (
       ap (λ (s : SessionValue). s.engine) h.2,
       (
         c.requires.settled,

@@ -12,8 +12,7 @@ returns-in-At c =
 
 pub returns-in-NoneLeft : goal.returns-in-NoneLeft
 returns-in-NoneLeft c =
-    let h = subst (FedAs c.args.session.now c.feed.new.self) c.in-NoneLeft.is c.in_ok-feed.ensures.ok in
-    (
+    let h = subst (FedAs c.args.session.now c.feed.new.self) c.in-NoneLeft.is c.in_ok-feed.ensures.ok in (
       ap (λ (s : SessionValue). s.engine) h.1,
       (
         c.requires.settled,
@@ -24,8 +23,7 @@ returns-in-NoneLeft c =
 
 pub returns-in-Full : goal.returns-in-Full
 returns-in-Full c =
-    let h = subst (FedAs c.args.session.now c.feed.new.self) c.in-Full.is c.in_ok-feed.ensures.ok in
-    (
+    let h = subst (FedAs c.args.session.now c.feed.new.self) c.in-Full.is c.in_ok-feed.ensures.ok in (
       ap (λ (s : SessionValue). s.engine) h.2,
       (
         c.requires.settled,
