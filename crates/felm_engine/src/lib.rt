@@ -9,6 +9,7 @@ mod deposits;
 mod dispatch;
 mod engine;
 mod heads;
+mod history;
 mod laws;
 mod lists;
 mod outputs;
