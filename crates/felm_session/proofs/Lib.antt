@@ -6,3 +6,4 @@ pub mod Running
 pub mod Ending
 pub mod Crosses
 pub mod Fresh
+pub mod Alike
