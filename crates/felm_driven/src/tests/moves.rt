@@ -1,10 +1,9 @@
 //! Moves of an engine, each with what it answers.
-ghost use Rattle.std.specs.Prelude.{◌≡◌, ◌<◌, ◌×◌, ℕ, Some, length, slice_get, IfOk, IfSome, IsTrue};
+ghost use Rattle.std.specs.Prelude.{◌<◌, length, IfOk, IfSome, IsTrue};
 ghost use Rattle.felm_term.specs.declared.value.Value.TheVariants as value;
 ghost use Rattle.felm_graph.specs.Graphs.{IsOfType};
-ghost use Rattle.felm_meaning.specs.Nodes.{inner};
-ghost use Rattle.felm_core.specs.Contents.{waiting_at};
-ghost use Rattle.felm_engine.specs.Answers.{planned, MayComeIn};
+ghost use Rattle.felm_engine.specs.Answers.{MayComeIn};
+ghost use Rattle.felm_driven.specs.Events.{IsOfAsync, IsFirst};
 
 use super::plans::plan;
 use super::texts::{
@@ -13,7 +12,7 @@ use super::texts::{
 };
 use Move::*;
 use felm_engine::{Claim as Claimed, Deposit as Deposited, Engine};
-use felm_graph::NodeKind;
+use felm_graph::{NodeKind, is_source};
 use felm_meaning::{Preset, Turn, compute, defaults, equal_values};
 use felm_term::{Event, Function, Limits, Memory, Scope, Ty, TyForm, Value, same_ty, type_of};
 use std::alloc::Global;
@@ -146,22 +145,34 @@ fn dispatch(
 fn may_come_in(alloc: Global, engine: &Engine, event: &Event) -> Result<bool, Memory>
     ensures { IfOk result (λ yes. IsTrue yes → MayComeIn engine.now event.now) }
 {
-    let nodes = engine.plan().graph.nodes();
-    let source = event.source as usize;
-    if source >= nodes.len() {
+    let graph = &engine.plan().graph;
+    if event.source as usize >= graph.nodes().len() || !is_source(graph, event.source) {
         return Ok(false);
     }
-    let may = match &nodes[source].kind {
-        NodeKind::Input { .. } => true,
+    if !is_in_turn(engine, event) {
+        return Ok(false);
+    }
+    is_of_type(
+        alloc,
+        &event.value,
+        &graph.nodes()[event.source as usize].ty,
+    )
+}
+
+/// At an async the value that has waited longest comes first.
+fn is_in_turn(engine: &Engine, event: &Event) -> bool
+    requires { event.now.source < length engine.now.plan.graph.nodes }
+    ensures { IsTrue result → IsOfAsync engine.now event.now → IsFirst engine.now event.now }
+{
+    match &engine.plan().graph.nodes()[event.source as usize].kind {
         NodeKind::Async { .. } => is_first(engine, event),
-        NodeKind::Lift { .. } | NodeKind::Foldp { .. } => false,
-    };
-    Ok(may && is_of_type(alloc, &event.value, &nodes[source].ty)?)
+        _ => true,
+    }
 }
 
 fn is_first(engine: &Engine, event: &Event) -> bool
-    requires { (x : ℕ) × (inner engine.now.plan.graph.nodes event.now.source ≡ Some x) }
-    ensures { IsTrue result → slice_get (waiting_at (planned engine.now) engine.now.position event.now.source) 0 ≡ Some event.now.value }
+    requires { IsOfAsync engine.now event.now }
+    ensures { IsTrue result → IsFirst engine.now event.now }
 {
     match engine.waiting_first(event.source) {
         Some(value) => equal_values(value, &event.value),
