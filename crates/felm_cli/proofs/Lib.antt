@@ -1,5 +1,6 @@
+pub mod Words
+pub mod Texts
 pub mod RunEnds
-pub mod Histories
 pub mod Exact
 pub mod Outcomes
 pub mod Clauses

@@ -5,6 +5,7 @@ mod ended;
 mod laws;
 mod once;
 mod over_sure;
+mod texts;
 mod words;
 
 pub use felm_printer::{
