@@ -30,7 +30,7 @@ use Rattle.felm_cli.specs.Texts.{is_within, first_long, texts_under, text_of, Is
 use Rattle.felm_cli.specs.Ends.{IsConcluded, IsTextOfEnd, Leaves, LeavesText}
 use Rattle.felm_cli.specs.Outcomes.{IsOfTexts, IsQuiet, NoPlan, HaveText, PutAs, whole, failed, without_memory, OrderOutcome, no_text, text_put}
 use Rattle.felm_cli.specs.Promises.{HaveResult, HaveStop, HaveFull, HavePrefix, Give, IsSure, IsTold, ComeTo, Answers, IsRun, LackDefault, NoneFailed, IsReached, IsDoable, CanBeDone}
-use Rattle.felm_cli.proofs.RunEnds.{plain_concluded, stopped_for, stopped_empty, none_stops, none_is_full}
+use Rattle.felm_cli.proofs.RunEnds.{plain_concluded, none_stops, none_is_full}
 use Rattle.felm_cli.proofs.Exact.{sure_once, sure_leaves, one_judged, default_stops}
 use Rattle.felm_cli.proofs.Outcomes.{further}
 
@@ -52,7 +52,7 @@ module _ (out out' : Option (List ℕ)) where
         (h.journal.items, tt, c.0, causes plan.graph plan.budget h.journal.items c.0.legal.caused, subst (Appends out out') t.1 a)
     run_has (Stopped i node position) status text c t a =
         subst (λ s. HaveAs s Run plan) (sym t.0)
-        (i.items, tt, stopped_for plan i.items node position c, stopped_empty plan i.items node position c, subst (Appends out out') t.1 a)
+        (i.items, tt, c.stopped, c.before_events, subst (Appends out out') t.1 a)
     run_has (Full h) status text c t a =
         subst (λ s. HaveAs s Run plan) (sym t.0) (h.journal.items, tt, c.0, subst (Appends out out') t.1 a)
 
@@ -72,7 +72,7 @@ module _ (out out' : Option (List ℕ)) where
         subst (λ s. HaveAs s Sync plan) (sym t.0) (
           i.items,
           e.0,
-          stopped_for plan i.items node position c,
+          c.stopped,
           (e.1 ∙ sym (ap (λ (j : List Event). length j) e.0), plain_stop i.items node position e.0 least),
           subst (Appends out out') t.1 a,
         )
@@ -151,15 +151,14 @@ module _ (out out' : Option (List ℕ)) (plan : PlanValue) (graph : IsGraph plan
       → IsDoable out out' Sync plan → status ≡ Success
   sync_done (Complete h) status text c e t d = t.0
   sync_done (Stopped i node position) status text c e t d =
-      absurd (none_stops plan i.items node position (stopped_for plan i.items node position c) (d.0 i.items e.0))
+      absurd (none_stops plan i.items node position c.stopped (d.0 i.items e.0))
   sync_done (Full h) status text c e t d = absurd (none_is_full plan named h.journal.items c.0 d.1)
 
   run_done : (end : RunEnd) (status : Status) (text : List ℕ) → IsConcluded plan end → IsTextOfEnd plan end status text → Appends out out' text
       → IsDoable out out' Run plan → status ≡ Success
   run_done (Complete h) status text c t a d = t.0
   run_done (Stopped i node position) status text c t a d =
-      let stopped = stopped_for plan i.items node position c in
-      absurd (none_stops plan i.items node position stopped (d.0 i.items (stopped.legal, inr (node, position, subst (Appends out out') t.1 a))))
+      absurd (none_stops plan i.items node position c.stopped (d.0 i.items (c.stopped.legal, inr (node, position, subst (Appends out out') t.1 a))))
   run_done (Full h) status text c t a d = absurd (none_is_full plan named h.journal.items c.0 d.1)
 
   done_well : (command : Command) (status : Status) (text : List ℕ) → Leaves command plan status text → Appends out out' text

@@ -71,8 +71,8 @@ module _ (plan : PlanValue) where
       go : (end : RunEnd) → IsConcluded plan end → IsTextOfEnd plan end status text → status ≡ Turn node 0
       go (Complete h) c t = absurd (no_default node over h.journal.items (c.0.there node 0 over.node (omega arith)))
       go (Full h) c t = absurd (no_default node over h.journal.items (c.0.there node 0 over.node (omega arith)))
-      go (Stopped i k zero) c t = t.0 ∙ ap (λ n. Turn n 0) (one_default [] i.items node k over c.0.over)
-      go (Stopped i k (suc p)) c t = let d = c.1 node over.node in absurd (none-some d.0 (sym over.none ∙ d.1))
+      go (Stopped i k zero) c t = t.0 ∙ ap (λ n. Turn n 0) (one_default [] i.items node k over c.stopped.over)
+      go (Stopped i k (suc p)) c t = let d = c.past_defaults (omega arith) node over.node in absurd (none-some d.0 (sym over.none ∙ d.1))
 
   -- the status of what is left is the one that is sure
   pub sure_once : (command : Command) (expected status : Status) (text : List ℕ) → IsSure command plan expected → Leaves command plan status text

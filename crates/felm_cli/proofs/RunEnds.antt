@@ -36,36 +36,34 @@ module _ (plan : PlanValue) where
   -- ---- the plain journal's end
 
   -- every default is there where the plain journal has an event
-  defaults_there : (n : ℕ) → length (plain_journal_for plan) ≡ suc n → DefaultsThereFor plan
+  defaults_there : 0 < length (plain_journal_for plan) → DefaultsThereFor plan
   unfolding val msg
-  defaults_there n e k l =
-      let within : 0 < length (plain_journal_for plan) = omega arith in
+  defaults_there within k l =
       let first = item_within (plain_journal_for plan) 0 within in
       let there : AllThere plan.graph plan.budget [] =
       ((plain-is plan.graph plan.budget plan.script plan.limit).steps 0 first.0 first.1).0 in
       value_there (at (row plan.graph plan.budget [] 0) k) (there k l)
 
-  -- the default of a node doesn't depend on the journal
-  history_for : (j : List Event) (h : History) → IsHistory plan.graph plan.budget j h → IsHistoryFor plan h
-  history_for j h is = record {
-    default = subst (λ (i : List Event). val plan.graph plan.budget i plan.graph.main 0 ≡ Some h.default) (sym is.journal) is.default;
-    outputs = subst (λ (i : List Event). h.outputs.items ≡ sends plan.graph plan.budget i plan.graph.main (length i)) (sym is.journal) is.outputs;
-  }
+  history_for : (h : History) → IsHistory plan.graph plan.budget (plain_journal_for plan) h → IsHistoryFor plan h
+  history_for h is = subst (λ (j : List Event). IsHistory plan.graph plan.budget j h) (sym is.journal) is
 
-  stopped_at : (j : List Event) (node position : ℕ) → j ≡ plain_journal_for plan → position ≡ length (plain_journal_for plan) → IsStoppedFor plan j node position
-      → IsStoppedAt plan j node position
-  stopped_at j node zero same e stopped = (stopped, empty j (ap length same ∙ sym e))
-  stopped_at j node (suc p) same e stopped = (stopped, defaults_there p (sym e))
+  stopped_at : (j : List Event) (node position : ℕ) → j ≡ plain_journal_for plan → position ≡ length (plain_journal_for plan)
+      → IsStoppedFor plan j node position → IsStoppedAt plan j node position
+  stopped_at j node position same e stopped = record {
+    stopped = stopped;
+    before_events = λ z. empty j (ap length same ∙ sym e ∙ z);
+    past_defaults = λ l. defaults_there (omega arith);
+  }
 
   module _ (graph : IsGraph plan.graph) (named : NamesInputs plan.graph.nodes plan.script) where
     pub plain_concluded : (end : RunEnd) → IsEndFor plan end → IsConcluded plan end
     plain_concluded (Complete h) e =
-        (complete_is_complete plan.graph plan.budget plan.script plan.limit graph named h e, history_for (plain_journal_for plan) h e.0)
+        (complete_is_complete plan.graph plan.budget plan.script plan.limit graph named h e, history_for h e.0)
     plain_concluded (Stopped i node position) e =
         stopped_at i.items node position e.0 e.1
         (stopped_is_stopped plan.graph plan.budget plan.script plan.limit graph named i node position e)
     plain_concluded (Full h) e =
-        (full_is_full plan.graph plan.budget plan.script plan.limit graph named h e, history_for (plain_journal_for plan) h e.0)
+        (full_is_full plan.graph plan.budget plan.script plan.limit graph named h e, history_for h e.0)
 
   -- ---- its text can be made
 
@@ -88,15 +86,6 @@ module _ (plan : PlanValue) where
     one_each = ap length c.1.outputs ∙ one_message_each h.journal.items plan.graph.main (λ p l. c.0.there plan.graph.main p graph.main_there l);
     history = c.1;
   }
-
-  pub stopped_for : (j : List Event) (node position : ℕ) → IsStoppedAt plan j node position → IsStoppedFor plan j node position
-  stopped_for j node zero s = s.0
-  stopped_for j node (suc p) s = s.0
-
-  -- position 0 is before the first event
-  pub stopped_empty : (j : List Event) (node position : ℕ) → IsStoppedAt plan j node position → position ≡ 0 → j ≡ []
-  stopped_empty j node zero s e = s.1
-  stopped_empty j node (suc p) s e = absurd (omega arith)
 
   -- ---- where it can be done whole
 

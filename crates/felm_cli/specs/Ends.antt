@@ -1,12 +1,12 @@
 -- What a command leaves of a plan: how its run ends, and the text of that end.
-use Rattle.std.specs.Prelude.{◌≡◌, ℕ, zero, suc, ⊤, List, [], Some, length}
+use Rattle.std.specs.Prelude.{◌≡◌, ℕ, ⊤, ◌<◌, List, [], length}
 use Rattle.felm_term.specs.declared.event.Event.{Event}
 use Rattle.felm_meaning.specs.declared.history.History.{History}
 use Rattle.felm_meaning.specs.declared.history.RunEnd.{RunEnd}
 use Rattle.felm_meaning.specs.declared.history.RunEnd.TheVariants.{Complete, Stopped, Full}
 use Rattle.felm_meaning.specs.PlanValue.{PlanValue}
-use Rattle.felm_meaning.specs.OfPlans.{DefaultsThereFor, val_for, sends_for, IsCompleteFor, IsStoppedFor, IsFullFor}
-use Rattle.felm_plain.specs.Ends.{IsEndFor}
+use Rattle.felm_meaning.specs.OfPlans.{DefaultsThereFor, IsCompleteFor, IsStoppedFor, IsFullFor}
+use Rattle.felm_plain.specs.Ends.{IsHistory, IsEndFor}
 use Rattle.felm_printer.specs.declared.result.Closing.TheVariants as closing
 use Rattle.felm_printer.specs.declared.status.Status.{Status}
 use Rattle.felm_printer.specs.declared.status.Status.TheVariants.{Success, Turn, Journal}
@@ -18,16 +18,17 @@ use Rattle.felm_cli.specs.declared.words.Command.TheVariants.{Sync, Graph, Run}
 -- ---- how a run ends
 
 -- a journal with the default and the messages of the shown node over it
-pub record IsHistoryFor (plan : PlanValue) (h : History) : Type 0 where
-  pub default : val_for plan h.journal.items plan.graph.main 0 ≡ Some h.default
-  pub outputs : h.outputs.items ≡ sends_for plan h.journal.items plan.graph.main (length h.journal.items)
+abbrev pub IsHistoryFor : PlanValue → History → Type 0
+IsHistoryFor plan h = IsHistory plan.graph plan.budget h.journal.items h
 
--- the call of this node at this position is over budget; at 0 it is that of its default, and no event has come in
-abbrev pub IsStoppedAt : PlanValue → List Event → ℕ → ℕ → Type 0
-IsStoppedAt plan j node zero = IsStoppedFor plan j node 0 × (j ≡ [])
-IsStoppedAt plan j node (suc p) = IsStoppedFor plan j node (suc p) × DefaultsThereFor plan
+-- a run of the plan that stopped at the call of node k at a position: at 0, which stands for its default, before any event; later only
+-- where every node has a default
+pub record IsStoppedAt (plan : PlanValue) (j : List Event) (k position : ℕ) : Type 0 where
+  pub stopped : IsStoppedFor plan j k position
+  pub before_events : position ≡ 0 → j ≡ []
+  pub past_defaults : 0 < position → DefaultsThereFor plan
 
--- an end of the plan's run: its journal is complete; or a call is over budget; or its journal is full, though something is still to enter
+-- an end of the plan's run: its journal is complete; or a call is over budget; or the journal is full, though something is still to enter
 abbrev pub IsConcluded : PlanValue → RunEnd → Type 0
 IsConcluded plan (Complete h) = IsCompleteFor plan h.journal.items × IsHistoryFor plan h
 IsConcluded plan (Stopped journal node position) = IsStoppedAt plan journal.items node position
