@@ -1,5 +1,5 @@
-pub mod Words
-pub mod Texts
+pub mod Orders
+pub mod Loaded
 pub mod RunEnds
 pub mod Exact
 pub mod Outcomes
