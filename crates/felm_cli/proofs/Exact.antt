@@ -51,7 +51,7 @@ module _ (plan : PlanValue) where
 
   -- the least node without a default is one, whatever the journal
   one_default : (i j : List Event) (k l : ℕ) → IsOverDefault plan.graph plan.budget i k → IsOverDefault plan.graph plan.budget j l → l ≡ k
-  unfolding val msg
+  unfolding val msg row
   one_default i j k l h w = go (cases_lt k l) (cases_lt l k)
     where
       go : (k < l) ⊎ (l ≤ k) → (l < k) ⊎ (k ≤ l) → l ≡ k
@@ -60,7 +60,7 @@ module _ (plan : PlanValue) where
       go (inr s) (inr u) = omega arith
 
   no_default : (node : ℕ) → IsOverDefault plan.graph plan.budget [] node → (j : List Event) → IsThere (msg plan.graph plan.budget j node 0) → ⊥
-  unfolding val msg
+  unfolding val msg row
   no_default node over j t = none-some (value_of t.0) (sym over.none ∙ ap value_at t.1)
 
   -- with workers too a run stops at once where a default is none
@@ -78,12 +78,12 @@ module _ (plan : PlanValue) where
   pub sure_once : (command : Command) (expected status : Status) (text : List ℕ) → IsSure command plan expected → Leaves command plan status text
       → status ≡ expected
   sure_once Sync expected status text s h = one_plain expected status s.0 text s.1 h
-  sure_once Graph expected status text s h = h.0 ∙ sym s.1
+  sure_once Graph expected status text s h = h.0 ∙ sym s.1.0
   sure_once Run expected status text s h = over_alone s.0 s.1 status text h ∙ sym s.2
 
   sure_alone : (command : Command) (one other : Status) → IsSure command plan one → IsSure command plan other → one ≡ other
   sure_alone Sync one other h k = one_plain other one k.0 h.0 k.1 h.1
-  sure_alone Graph one other h k = h.1 ∙ sym k.1
+  sure_alone Graph one other h k = h.1.0 ∙ sym k.1.0
   sure_alone Run one other h k = h.2 ∙ ap (λ n. Turn n 0) (one_default [] [] k.0 h.0 k.1 h.1) ∙ sym k.2
 
   text_leaves : (end : RunEnd) (status : Status) (text : List ℕ) → IsTextOfEnd plan end status text → LeavesText status
@@ -92,8 +92,8 @@ module _ (plan : PlanValue) where
   text_leaves (Full h) status text t = subst LeavesText (sym t.0) tt
 
   pub sure_leaves : (command : Command) (status : Status) → IsSure command plan status → LeavesText status
-  sure_leaves Sync status s = text_leaves s.1 status s.0 s.3
-  sure_leaves Graph status s = subst LeavesText (sym s.1) tt
+  sure_leaves Sync status s = text_leaves s.1.0 status s.0 s.1.2
+  sure_leaves Graph status s = subst LeavesText (sym s.1.0) tt
   sure_leaves Run status s = subst LeavesText (sym s.2) tt
 
   -- ---- a default over budget

@@ -1,5 +1,3 @@
-pub mod Orders
-pub mod Loaded
 pub mod RunEnds
 pub mod Exact
 pub mod Outcomes

@@ -39,7 +39,7 @@ fn load_text<F: Files>(
     which: Which,
 ) -> Result<Vec<u8>, Status>
     ensures text { LoadedOrFault (λ text. text.items) (files_of (F.bytes files.old) (F.faults files.old))
-        (files_of (F.bytes files.new) (F.faults files.new)) (option_map (λ name. name.now) name) which result }
+        (files_of (F.bytes files.new) (F.faults files.new)) (option_map (λ text. text.now) name.entry) which result }
     ensures bound { IfOk result (λ text. length text.items ≤ most_bytes which) }
     ensures loaded { (other : List ℕ) → UnlessRead result (F.faults files.new other ≡ F.faults files.old other) }
     ensures files { (other : List ℕ) → F.bytes files.new other ≡ F.bytes files.old other }
