@@ -1,18 +1,14 @@
 -- How an order ends, by how its parts do.
 use Rattle.std.proofs.Common.{◌≡◌, ℕ, List, Option, Some, None, IfSome}
-use Rattle.std.specs.Prelude.{Result, Ok, Err}
 use Rattle.felm_graph.specs.Graphs.{IsGraph}
 use Rattle.felm_meaning.specs.Journals.{NamesInputs}
 use Rattle.felm_meaning.specs.PlanValue.{PlanValue}
-use Rattle.felm_printer.specs.declared.status.Status.{Status}
-use Rattle.felm_printer.specs.declared.status.Status.TheVariants.{Read}
 use Rattle.felm_printer.specs.declared.status.Which.TheVariants.{Program, Script}
 use Rattle.felm_plans.specs.Plans.{Planned}
 use Rattle.felm_plans.proofs.Graphs.{plan_keeps}
 use Rattle.felm_cli.specs.declared.words.Command.{Command}
 use Rattle.felm_cli.specs.Words.{Texts, OrderValue}
-use Rattle.felm_cli.specs.Texts.{first_long, texts_under, text_of, plan_under, IsPlanOf, OfTexts, OfPlan}
-use Rattle.felm_cli.specs.Outcomes.{IsRead, UnlessRead}
+use Rattle.felm_cli.specs.Texts.{first_long, texts_under, text_of, plan_under, IsPlanOf, OfPlan}
 
 -- texts that aren't too long have a plan, of which this holds
 abbrev HasPlan : OrderValue → (Command → PlanValue → Type 0) → Texts → Type 0
@@ -30,18 +26,3 @@ further bytes order P Q f = go (texts_under bytes order.texts)
         let plan = h.1.0 in
         let kept = plan_keeps (text_of Program texts) (text_of Script texts) order.limits.stage_steps plan h.1.1 in
         (h.0, (plan, h.1.1, f (plan_under order.limits plan) kept.0 kept.1 h.1.2))
-
--- the plan of an order is run under its limits
-pub of_plan : (bytes : List ℕ → Option (List ℕ)) (order : OrderValue) (plan : Planned) (P : Command → PlanValue → Type 0)
-    → OfTexts bytes (Some order) (λ order texts. IsPlanOf order texts plan) → P order.command (plan_under order.limits plan) → OfPlan bytes (Some order) P
-of_plan bytes order plan P h p = go (texts_under bytes order.texts) h
-  where
-    go : (o : Option Texts) → IfSome o (λ texts. (first_long texts ≡ None) × IsPlanOf order texts plan)
-        → IfSome o (HasPlan order P)
-    go None h = tt
-    go (Some texts) h = (h.0, (plan, h.1, p))
-
--- unless a load failed
-pub unless_read : {T : Type 0} (status : Status) (P : Type 0) → UnlessRead {T} (Err status) P → ¬ IsRead status → P
-unless_read (Read which) P h n = absurd (n tt)
-unless_read _ P h n = h
