@@ -94,35 +94,6 @@ quiet_leaves files files' order (Turn node position) l n = n.0
 quiet_leaves files files' order Journal l n = n.0
 quiet_leaves files files' order _ l n = absurd l
 
--- and a quiet one leaves none
-leaves_quiet : (status : Status) → LeavesText status → IsQuiet status → ⊥
-leaves_quiet Success l q = q
-leaves_quiet (Turn node position) l q = q
-leaves_quiet Journal l q = q
-leaves_quiet _ l q = absurd l
-
-texts_quiet : (status : Status) → IsOfTexts status → IsQuiet status
-texts_quiet (Syntax cause at) h = tt
-texts_quiet (Typing cause at) h = tt
-texts_quiet (Script cause line) h = tt
-texts_quiet (Stage cause) h = tt
-texts_quiet _ h = absurd h
-
--- what is wrong with texts
-faults : (files files' : FilesValue) (order : OrderValue) (status : Status) → IsOfTexts status → NoPlan files files' order status
-    → OfTexts files.bytes (Some order) (λ order texts. IsFaultOf order texts status)
-faults files files' order (Syntax cause at) t n = n.1
-faults files files' order (Typing cause at) t n = n.1
-faults files files' order (Script cause line) t n = n.1
-faults files files' order (Stage cause) t n = n.1
-faults files files' order _ t n = absurd t
-
--- nothing was put where a status is quiet
-not_put : {out out' : SinkValue} (end status : Status) (text : List ℕ) → LeavesText end → PutAs end text out out' status → IsQuiet status → ⊥
-not_put end status text l (whole e a c) q = leaves_quiet end l (subst IsQuiet e q)
-not_put end status text l (failed e a r s) q = subst IsQuiet e q
-not_put end status text l (without_memory e a f) q = subst IsQuiet e q
-
 -- ---- lengths
 
 -- the first text that is too long, by its name and by its bytes
@@ -203,61 +174,6 @@ module _ (files files' : FilesValue) (order : OrderValue) (out out' : SinkValue)
 
   pub clause_journal : (status : Status) → Outcome status → status ≡ Journal → OfPlan files.bytes (Some order) (HaveFull out.bytes out'.bytes)
   clause_journal status h e = have_whole Journal tt (subst Outcome e h)
-
-  pub clause_unrefused : (status : Status) → Outcome status → LeavesText status → CountsStay out out'
-  clause_unrefused status h l = (put_whole status l h).3
-
-  -- a quiet status has put nothing
-  nothing_put : (status : Status) → IsQuiet status → Outcome status → NoPlan files files' order status × (out' ≡ out)
-  nothing_put status q (no_text n same) = (n, same)
-  nothing_put status q (text_put end text have put) = absurd (not_put end status text have.0 put q)
-
-  pub clause_quiet : (status : Status) → Outcome status → IsQuiet status
-      → Keeps out.bytes out'.bytes × (out'.faults ≡ out.faults) × (out'.short ≡ out.short)
-  clause_quiet status h q =
-      let same = (nothing_put status q h).1 in
-      (subst (λ (sink : SinkValue). Keeps out.bytes sink.bytes) (sym same) (Keeps-refl out.bytes), ap (λ s. s.faults) same, ap (λ s. s.short) same)
-
-  pub clause_read : (status : Status) → Outcome status → (w : Which) → status ≡ Read w
-      → IsSomeAnd (file_of w order) (λ name. Rose (files.faults name) (files'.faults name))
-  clause_read status h w e = (nothing_put (Read w) tt (subst Outcome e h)).0
-
-  pub clause_too_long : (status : Status) → Outcome status → (w : Which) → status ≡ TooLong w → IsFirstLong files.bytes order.texts w
-  clause_too_long status h w e = (nothing_put (TooLong w) tt (subst Outcome e h)).0
-
-  pub clause_faulty : (status : Status) → Outcome status → IsOfTexts status
-      → OfTexts files.bytes (Some order) (λ order texts. IsFaultOf order texts status)
-  clause_faulty status h t = faults files files' order status t (nothing_put status (texts_quiet status t) h).0
-
-  pub clause_usage : (status : Status) → Outcome status → status ≡ Usage → ⊥
-  clause_usage status h e = (nothing_put Usage tt (subst Outcome e h)).0.0
-
-  -- ---- puts that are refused
-
-  cut : (end : Status) (text : List ℕ) → HaveText files.bytes order end text → AppendsPrefix out.bytes out'.bytes text
-      → OfPlan files.bytes (Some order) (HavePrefix out.bytes out'.bytes)
-  cut end text have a =
-      further files.bytes order (λ command plan. Leaves command plan end text) (HavePrefix out.bytes out'.bytes) (λ plan graph named leaves. (end, text, leaves, a)) have.1
-
-  pub clause_write : (status : Status) → Outcome status → status ≡ Write
-      → Rose out.faults out'.faults × (out'.short ≡ out.short) × OfPlan files.bytes (Some order) (HavePrefix out.bytes out'.bytes)
-  clause_write status (no_text n same) e = absurd (subst (NoPlan files files' order) e n).0
-  clause_write status (text_put end text have (whole w a c)) e = absurd (subst LeavesText (sym w ∙ e) have.0)
-  clause_write status (text_put end text have (failed w a r s)) e = (r, s, cut end text have a)
-  clause_write status (text_put end text have (without_memory w a f)) e = let x : Memory ≡ Write = sym w ∙ e in cc
-
-  pub clause_unfailed : (status : Status) → Outcome status → status ≢ Write → out'.faults ≡ out.faults
-  clause_unfailed status (no_text n same) e = ap (λ s. s.faults) same
-  clause_unfailed status (text_put end text have (whole w a c)) e = c.0
-  clause_unfailed status (text_put end text have (failed w a r s)) e = absurd (e w)
-  clause_unfailed status (text_put end text have (without_memory w a f)) e = f
-
-  pub clause_memory : (status : Status) → Outcome status → status ≡ Memory
-      → Keeps out.bytes out'.bytes ⊎ OfPlan files.bytes (Some order) (HavePrefix out.bytes out'.bytes)
-  clause_memory status (no_text n same) e = inl (subst (λ (sink : SinkValue). Keeps out.bytes sink.bytes) (sym same) (Keeps-refl out.bytes))
-  clause_memory status (text_put end text have (whole w a c)) e = absurd (subst LeavesText (sym w ∙ e) have.0)
-  clause_memory status (text_put end text have (failed w a r s)) e = let x : Write ≡ Memory = sym w ∙ e in cc
-  clause_memory status (text_put end text have (without_memory w a f)) e = inr (cut end text have a)
 
   -- ---- exactness
 
