@@ -8,6 +8,7 @@ mod deposits;
 mod dispatch;
 mod engine;
 mod heads;
+mod history;
 mod laws;
 mod lists;
 mod outputs;

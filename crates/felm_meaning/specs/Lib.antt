@@ -17,3 +17,4 @@ pub mod OfPlans
 pub mod Plans
 pub mod Values
 pub mod Presets
+pub mod Histories

@@ -2,18 +2,12 @@
 use Rattle.std.specs.Prelude.{◌≡◌, ℕ, Some, None, List, length}
 use Rattle.felm_term.specs.declared.event.Event.{Event}
 use Rattle.felm_graph.specs.GraphValue.{GraphValue}
-use Rattle.felm_meaning.specs.declared.history.History.{History}
 use Rattle.felm_meaning.specs.declared.history.RunEnd.{RunEnd}
 use Rattle.felm_meaning.specs.declared.history.RunEnd.TheVariants.{Complete, Stopped, Full}
-use Rattle.felm_meaning.specs.Meaning.{row, val, sends}
+pub use Rattle.felm_meaning.specs.Histories.{IsHistory}
+use Rattle.felm_meaning.specs.Meaning.{row}
 use Rattle.felm_meaning.specs.Journals.{AllThere, IsLeastNone, next, plain_journal}
 use Rattle.felm_meaning.specs.PlanValue.{PlanValue}
-
--- a journal, with the default and the messages of main over it
-pub record IsHistory (g : GraphValue) (b : ℕ) (j : List Event) (h : History) : Type 0 where
-  pub journal : h.journal.items ≡ j
-  pub default : val g b j g.main 0 ≡ Some h.default
-  pub outputs : h.outputs.items ≡ sends g b j g.main (length j)
 
 -- how a run ends with a journal: every message is there and nothing comes next; or the node is the least without a message at the
 -- last event, or without a default where there is no event; or every message is there and the journal is at its limit, though

@@ -2,3 +2,5 @@ pub mod Stepping
 pub mod Entering
 pub mod Fullness
 pub mod Settling
+pub mod Running
+pub mod Ending

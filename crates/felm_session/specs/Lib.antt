@@ -1,3 +1,4 @@
 pub mod SessionValue
 pub mod Inside
 pub mod Answers
+pub mod Concluding

@@ -2,6 +2,8 @@
 #![tactic(auto)]
 
 mod bench;
+mod conclusion;
 mod session;
 
+pub use conclusion::{Concluded, conclude};
 pub use session::{Begun, Session};
