@@ -12,6 +12,7 @@ use Rattle.felm_meaning.specs.Journals.{NamesInputs, IsLeastNone}
 use Rattle.felm_meaning.specs.declared.history.RunEnd.{RunEnd}
 use Rattle.felm_meaning.specs.declared.history.RunEnd.TheVariants.{Complete, Stopped, Full}
 use Rattle.felm_meaning.specs.Ends.{IsOverDefault}
+use Rattle.felm_meaning.specs.Histories.{IsConcluded}
 use Rattle.felm_meaning.specs.PlanValue.{PlanValue}
 use Rattle.felm_meaning.specs.OfPlans.{plain_journal_for}
 use Rattle.felm_meaning.proofs.Causes.{causes}
@@ -27,7 +28,7 @@ use Rattle.felm_cli.specs.declared.words.Command.TheVariants.{Sync, Graph, Run}
 use Rattle.felm_cli.specs.Words.{Texts, OrderValue, file_of}
 use Rattle.felm_cli.specs.Outside.{FilesValue, SinkValue, CountsStay}
 use Rattle.felm_cli.specs.Texts.{is_within, first_long, texts_under, text_of, IsFirstLong, plan_under, IsPlanOf, IsFaultOf, AreJudgedBy, AreJudged, OfOrder, OfTexts, OfPlan}
-use Rattle.felm_cli.specs.Ends.{IsConcluded, IsTextOfEnd, Leaves, LeavesText}
+use Rattle.felm_cli.specs.Ends.{IsTextOfEnd, Leaves, LeavesText}
 use Rattle.felm_cli.specs.Outcomes.{IsOfTexts, IsQuiet, NoPlan, HaveText, PutAs, whole, failed, without_memory, OrderOutcome, no_text, text_put}
 use Rattle.felm_cli.specs.Promises.{HaveResult, HaveStop, HaveFull, HavePrefix, Give, IsSure, IsTold, ComeTo, Answers, IsRun, LackDefault, NoneFailed, IsReached, IsDoable, CanBeDone}
 use Rattle.felm_cli.proofs.RunEnds.{plain_concluded, none_stops, none_is_full}

@@ -12,6 +12,7 @@ use Rattle.felm_meaning.specs.declared.history.RunEnd.TheVariants.{Complete, Sto
 use Rattle.felm_meaning.specs.Meaning.{row, at, msg, val, value_at, IsThere}
 use Rattle.felm_meaning.specs.Journals.{IsLeastNone}
 use Rattle.felm_meaning.specs.Ends.{IsOverDefault}
+use Rattle.felm_meaning.specs.Histories.{IsConcluded}
 use Rattle.felm_meaning.specs.PlanValue.{PlanValue}
 use Rattle.felm_meaning.specs.OfPlans.{plain_journal_for}
 use Rattle.felm_meaning.proofs.Plain.{plain-only}
@@ -28,7 +29,7 @@ use Rattle.felm_cli.specs.declared.words.Command.{Command}
 use Rattle.felm_cli.specs.declared.words.Command.TheVariants.{Sync, Graph, Run}
 use Rattle.felm_cli.specs.Words.{Texts, OrderValue}
 use Rattle.felm_cli.specs.Texts.{first_long, text_of, plan_under, AreJudgedBy, AreJudged}
-use Rattle.felm_cli.specs.Ends.{IsConcluded, IsTextOfEnd, Leaves, LeavesText}
+use Rattle.felm_cli.specs.Ends.{IsTextOfEnd, Leaves, LeavesText}
 use Rattle.felm_cli.specs.Promises.{IsSure, IsTold}
 use Rattle.felm_cli.specs.Laws.{TextsComeToOneEnd}
 

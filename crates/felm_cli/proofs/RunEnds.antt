@@ -13,15 +13,16 @@ use Rattle.felm_meaning.specs.Meaning.{row, at, msg, val, value_at, sends, IsThe
 use Rattle.felm_meaning.specs.Journals.{NamesInputs, AllThere, next}
 use Rattle.felm_meaning.specs.Words.{IsNext}
 use Rattle.felm_meaning.specs.Ends.{IsUnfinished}
+use Rattle.felm_meaning.specs.Histories.{IsHistory, IsHistoryFor, IsStoppedAt, IsConcluded}
 use Rattle.felm_meaning.specs.PlanValue.{PlanValue}
 use Rattle.felm_meaning.specs.OfPlans.{DefaultsThereFor, IsCompleteFor, IsStoppedFor, IsFullFor, plain_journal_for}
 use Rattle.felm_meaning.proofs.Rows.{item_within}
 use Rattle.felm_meaning.proofs.Plain.{plain-is}
 use Rattle.felm_meaning.proofs.Legal.{legal-next, next-is, async_is_source, source_within}
 use Rattle.felm_meaning.proofs.Edges.{edge-holds}
-use Rattle.felm_plain.specs.Ends.{IsHistory, IsEndFor}
+use Rattle.felm_plain.specs.Ends.{IsEndFor}
 use Rattle.felm_plain.proofs.EndLaws.{complete_is_complete, stopped_is_stopped, full_is_full}
-use Rattle.felm_cli.specs.Ends.{IsHistoryFor, IsStoppedAt, IsConcluded, IsPrintable}
+use Rattle.felm_cli.specs.Ends.{IsPrintable}
 use Rattle.felm_cli.specs.Promises.{AllWithinBudget, JournalSuffices}
 
 pub empty : {X : Type 0} (xs : List X) → length xs ≡ 0 → xs ≡ []

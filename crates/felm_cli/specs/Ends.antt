@@ -1,12 +1,11 @@
 -- What a command leaves of a plan: how its run ends, and the text of that end.
-use Rattle.std.specs.Prelude.{◌≡◌, ℕ, ⊤, ◌<◌, List, [], length}
-use Rattle.felm_term.specs.declared.event.Event.{Event}
+use Rattle.std.specs.Prelude.{◌≡◌, ℕ, ⊤, List, length}
 use Rattle.felm_meaning.specs.declared.history.History.{History}
 use Rattle.felm_meaning.specs.declared.history.RunEnd.{RunEnd}
 use Rattle.felm_meaning.specs.declared.history.RunEnd.TheVariants.{Complete, Stopped, Full}
 use Rattle.felm_meaning.specs.PlanValue.{PlanValue}
-use Rattle.felm_meaning.specs.OfPlans.{DefaultsThereFor, IsCompleteFor, IsStoppedFor, IsFullFor}
-use Rattle.felm_plain.specs.Ends.{IsHistory, IsEndFor}
+use Rattle.felm_meaning.specs.Histories.{IsHistoryFor, IsConcluded}
+use Rattle.felm_plain.specs.Ends.{IsEndFor}
 use Rattle.felm_printer.specs.declared.result.Closing.TheVariants as closing
 use Rattle.felm_printer.specs.declared.status.Status.{Status}
 use Rattle.felm_printer.specs.declared.status.Status.TheVariants.{Success, Turn, Journal}
@@ -16,23 +15,6 @@ use Rattle.felm_cli.specs.declared.words.Command.{Command}
 use Rattle.felm_cli.specs.declared.words.Command.TheVariants.{Sync, Graph, Run}
 
 -- ---- how a run ends
-
--- a journal with the default and the messages of the shown node over it
-abbrev pub IsHistoryFor : PlanValue → History → Type 0
-IsHistoryFor plan h = IsHistory plan.graph plan.budget h.journal.items h
-
--- a run of the plan that stopped at the call of node k at a position: at 0, which stands for its default, before any event; later only
--- where every node has a default
-pub record IsStoppedAt (plan : PlanValue) (j : List Event) (k position : ℕ) : Type 0 where
-  pub stopped : IsStoppedFor plan j k position
-  pub before_events : position ≡ 0 → j ≡ []
-  pub past_defaults : 0 < position → DefaultsThereFor plan
-
--- an end of the plan's run: its journal is complete; or a call is over budget; or the journal is full, though something is still to enter
-abbrev pub IsConcluded : PlanValue → RunEnd → Type 0
-IsConcluded plan (Complete h) = IsCompleteFor plan h.journal.items × IsHistoryFor plan h
-IsConcluded plan (Stopped journal node position) = IsStoppedAt plan journal.items node position
-IsConcluded plan (Full h) = IsFullFor plan h.journal.items × IsHistoryFor plan h
 
 -- a history that can be printed: its journal is of sources, and has one message an event
 pub record IsPrintable (plan : PlanValue) (h : History) : Type 0 where

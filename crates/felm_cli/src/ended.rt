@@ -3,9 +3,10 @@ ghost use Rattle.std.specs.Prelude.{◌≡◌, IfOk};
 ghost use Rattle.felm_graph.specs.Graphs.{IsGraph};
 ghost use Rattle.felm_meaning.specs.Journals.{NamesInputs};
 ghost use Rattle.felm_meaning.specs.Plans.{plan_of};
+ghost use Rattle.felm_meaning.specs.Histories.{IsConcluded};
 ghost use Rattle.felm_printer.specs.Results.{result_text};
 ghost use Rattle.felm_cli.specs.declared.words.Command.TheVariants as command;
-ghost use Rattle.felm_cli.specs.Ends.{IsPrintable, IsConcluded, IsTextOfEnd, Leaves, LeavesText};
+ghost use Rattle.felm_cli.specs.Ends.{IsPrintable, IsTextOfEnd, Leaves, LeavesText};
 
 use felm_meaning::{History, Plan, RunEnd};
 use felm_plain::plain_run;

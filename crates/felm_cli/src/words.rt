@@ -1,5 +1,5 @@
 //! The order that the words of a command line give.
-ghost use Rattle.std.specs.Prelude.{◌≡◌, ◌≢◌, [], ◌∷◌, IfSome};
+ghost use Rattle.std.specs.Prelude.{◌≡◌, ◌≢◌, ◌↔◌, [], ◌∷◌, IsTrue, IfSome};
 ghost use Rattle.std.specs.Option.{option_map};
 ghost use Rattle.felm_cli.specs.Words.{command_of, default_limits, is_file, file_of, order_with, order_in, order_once};
 ghost use Rattle.felm_cli.specs.declared.words.Command.TheVariants as command;
@@ -58,6 +58,13 @@ impl<'a> Order<'a> {
             }
             (Order::Graph { .. }, Which::Script) => None,
         }
+    }
+
+    /// Whether it is to be done with workers.
+    pub fn is_run(&self) -> bool
+        ensures { IsTrue result ↔ ((order_value self.now).command ≡ command.Run) }
+    {
+        matches!(self, Order::Run { .. })
     }
 
     /// Its limits.
