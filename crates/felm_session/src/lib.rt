@@ -3,7 +3,9 @@
 
 mod bench;
 mod conclusion;
+mod crossing;
 mod session;
 
 pub use conclusion::{Concluded, conclude};
+pub use crossing::sessions_cross;
 pub use session::{Begun, Session};
