@@ -7,7 +7,7 @@ ghost use Rattle.felm_cli.specs.Ends.{Leaves, LeavesText};
 
 use crate::ended::{Ended, text_of_end};
 use felm_meaning::{Plan, RunEnd};
-use felm_session::{Begun, Session, conclude};
+use felm_session::{Begun, Session, conclude, sessions_cross};
 use felm_term::{Events, Memory};
 use felm_workers::{Gate, run_bench};
 use std::alloc::Global;
@@ -40,6 +40,7 @@ fn end_with_workers<G: Gate + Sync, R: Threads + Wait + Sync>(
 {
     match Session::begin(alloc, plan.copy(alloc)?)? {
         Begun::Ready(session) => {
+            sessions_cross();
             let (returned, _shares) = run_bench(rt, alloc, session, plan.limits.workers, gate)?;
             let concluded = conclude(alloc, returned, plan.copy(alloc)?)?;
             Ok(concluded.end)
