@@ -8,4 +8,9 @@ mod session;
 
 pub use conclusion::{Concluded, conclude};
 pub use crossing::sessions_cross;
+mod laws;
+mod session;
+
+pub use conclusion::{Concluded, conclude};
+pub use laws::without_asyncs_one_end;
 pub use session::{Begun, Session};
