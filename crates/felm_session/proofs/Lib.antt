@@ -6,4 +6,3 @@ pub mod Running
 pub mod Ending
 pub mod Alike
 pub mod Crosses
-pub mod Fresh
