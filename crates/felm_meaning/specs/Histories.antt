@@ -19,6 +19,12 @@ pub record IsHistory (g : GraphValue) (b : ℕ) (j : List Event) (h : History) :
 abbrev pub IsHistoryFor : PlanValue → History → Type 0
 IsHistoryFor plan h = IsHistory plan.graph plan.budget h.journal.items h
 
+-- histories that are equal but for the room that is left in their lists
+pub record SameHistory (left right : History) : Type 0 where
+  pub default : left.default ≡ right.default
+  pub journal : left.journal.items ≡ right.journal.items
+  pub outputs : left.outputs.items ≡ right.outputs.items
+
 -- a run of the plan that stopped at the call of node k at a position: at 0, which stands for its default, before any event; later only
 -- where every node has a default
 pub record IsStoppedAt (plan : PlanValue) (j : List Event) (k position : ℕ) : Type 0 where

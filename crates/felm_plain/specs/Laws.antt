@@ -7,6 +7,7 @@ use Rattle.felm_graph.specs.Graphs.{IsGraph}
 use Rattle.felm_meaning.specs.declared.history.History.{History}
 use Rattle.felm_meaning.specs.declared.history.RunEnd.{RunEnd}
 use Rattle.felm_meaning.specs.declared.history.RunEnd.TheVariants.{Complete, Stopped, Full}
+pub use Rattle.felm_meaning.specs.Histories.{SameHistory}
 use Rattle.felm_meaning.specs.Meaning.{row, IsThere}
 use Rattle.felm_meaning.specs.Journals.{NamesInputs, AllThere, IsLeastNone, next}
 use Rattle.felm_meaning.specs.PlanValue.{PlanValue}
@@ -14,12 +15,6 @@ use Rattle.felm_meaning.specs.OfPlans.{msg_for, IsLegalFor, IsCompleteFor, IsSto
 use Rattle.felm_plain.specs.Ends.{IsEndFor}
 
 -- ---- one end
-
--- equal but for the room that is left in their lists
-pub record SameHistory (left right : History) : Type 0 where
-  pub default : left.default ≡ right.default
-  pub journal : left.journal.items ≡ right.journal.items
-  pub outputs : left.outputs.items ≡ right.outputs.items
 
 -- ends of one kind, with the same parts
 abbrev pub SameEnd : RunEnd → RunEnd → Type 0

@@ -4,3 +4,4 @@ pub mod Fullness
 pub mod Settling
 pub mod Running
 pub mod Ending
+pub mod Alike

@@ -3,7 +3,9 @@
 
 mod bench;
 mod conclusion;
+mod laws;
 mod session;
 
 pub use conclusion::{Concluded, conclude};
+pub use laws::without_asyncs_one_end;
 pub use session::{Begun, Session};
