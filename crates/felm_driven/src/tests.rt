@@ -1,0 +1,7 @@
+//! Rows that were worked by hand.
+mod edges;
+mod engines;
+mod moves;
+mod plans;
+mod texts;
+mod turns;
