@@ -14,17 +14,40 @@ use std::alloc::Global;
 use std::process::Abort;
 use std::test::Fail;
 
-/// How many orders are driven.
-const ORDERS: u32 = 10_000;
+/// How many orders are driven with edges of one size.
+const ORDERS: u32 = 3_334;
 
 #[test]
-fn whatever_the_order_the_end_is_legal_and_complete(rt: HostRuntime) -> Result<(), Fail> {
-    let alloc = rt.alloc();
+fn whatever_the_order_the_end_is_legal_with_one_message_an_edge(
+    rt: HostRuntime,
+) -> Result<(), Fail> {
+    try_orders(&rt, rt.alloc(), 1)
+}
+
+#[test]
+fn whatever_the_order_the_end_is_legal_with_two_messages_an_edge(
+    rt: HostRuntime,
+) -> Result<(), Fail> {
+    try_orders(&rt, rt.alloc(), 2)
+}
+
+#[test]
+fn whatever_the_order_the_end_is_legal_with_sixteen_messages_an_edge(
+    rt: HostRuntime,
+) -> Result<(), Fail> {
+    try_orders(&rt, rt.alloc(), 16)
+}
+
+/// Drives sessions of all examples, with edges of so many messages.
+fn try_orders(rt: &impl Abort, alloc: Global, edge: u32) -> Result<(), Fail>
+    requires least { 1 ≤ edge }
+    requires most { edge ≤ 1024 }
+{
     // Turns that were handed out and not brought back, of earlier sessions too.
     let mut held = Vec::new(alloc);
     for number in 0..ORDERS {
         let mut draw = Draw::begin(number);
-        try_order(&rt, alloc, &mut held, &mut draw, number)?;
+        try_order(rt, alloc, &mut held, &mut draw, number, &limits(edge))?;
     }
     Ok(())
 }
@@ -36,9 +59,10 @@ fn try_order(
     held: &mut Vec<Turn>,
     draw: &mut Draw,
     number: u32,
+    limits: &Limits,
 ) -> Result<(), Fail> {
     let (program, script) = EXAMPLES[(number % 12) as usize];
-    let plan = plan_of_texts(alloc, program, script, &limits(number / 12 % 3))?;
+    let plan = plan_of_texts(alloc, program, script, limits)?;
     let mut session = begun(alloc, &plan)?;
     for _ in 0..draw.below(80) {
         call(alloc, &mut session, held, draw)?;
@@ -60,13 +84,11 @@ fn try_order(
     Ok(())
 }
 
-/// Edges of 1, 2 or 16 messages.
-fn limits(choice: u32) -> Limits {
-    let edge = match choice {
-        0 => 1,
-        1 => 2,
-        _ => 16,
-    };
+/// Edges of so many messages.
+fn limits(edge: u32) -> Limits
+    requires least { 1 ≤ edge }
+    requires most { edge ≤ 1024 }
+{
     Limits {
         workers: 2,
         turn_steps: 10_000,

@@ -79,7 +79,7 @@ impl Follower {
             return Ok(false);
         }
         for (number, node) in plan.graph.nodes().iter().enumerate() {
-            let next = self.next_of(alloc, plan, number, node, event)?;
+            let next = self.next_of(alloc, plan, number as u32, node, event)?;
             self.set(number, next);
         }
         for (number, node) in plan.graph.nodes().iter().enumerate() {
@@ -120,7 +120,7 @@ impl Follower {
         &self,
         alloc: Global,
         plan: &Plan,
-        number: usize,
+        number: u32,
         node: &Node,
         event: &Event,
     ) -> Result<Option<Value>, Fail> {
@@ -142,9 +142,9 @@ impl Follower {
                 alloc,
                 plan,
                 function,
-                &[*argument, number as u32],
+                &[*argument, number],
             )?)),
-            _ if event.source as usize == number => Ok(Some(event.value.copy()?)),
+            _ if event.source == number => Ok(Some(event.value.copy()?)),
             _ => Ok(None),
         }
     }

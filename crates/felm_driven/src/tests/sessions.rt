@@ -83,7 +83,7 @@ fn a_session_goes_through_its_script(rt: HostRuntime) -> Result<(), Fail> {
 }
 
 #[test]
-fn a_full_journal_takes_no_event(rt: HostRuntime) -> Result<(), Fail> {
+fn a_full_journal_has_no_place_for_the_script(rt: HostRuntime) -> Result<(), Fail> {
     let alloc = rt.alloc();
     let run = (TWO_LIFTS, "x 4\nx 6", &SHORT);
     let rows = [(Feed, "at 1"), (Feed, "full")];
@@ -94,7 +94,7 @@ fn a_full_journal_takes_no_event(rt: HostRuntime) -> Result<(), Fail> {
 }
 
 #[test]
-fn turns_are_handed_out_again(rt: HostRuntime) -> Result<(), Fail> {
+fn a_turn_that_is_out_is_taken_back(rt: HostRuntime) -> Result<(), Fail> {
     let alloc = rt.alloc();
     let run = (TWO_LIFTS, "x 4\nx 6", &NARROW);
     let rows = [
