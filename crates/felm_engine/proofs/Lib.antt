@@ -12,3 +12,4 @@ pub mod EachSource
 pub mod SourceLists
 pub mod Entering
 pub mod Refusals
+pub mod Crosses

@@ -4,6 +4,7 @@
 mod answers;
 mod bench;
 mod claims;
+mod crossing;
 mod deposits;
 mod dispatch;
 mod engine;
@@ -18,6 +19,7 @@ mod waiting;
 
 pub use answers::{Claim, Deposit, Entered, Fed, Stop};
 pub use bench::Bench;
+pub use crossing::engines_cross;
 pub use engine::Engine;
 pub use laws::{
     calls_are_moves, engines_follow_their_moves, engines_never_stick, journals_have_causes,

@@ -5,3 +5,4 @@ pub mod Settling
 pub mod Running
 pub mod Ending
 pub mod Alike
+pub mod Crosses

@@ -3,9 +3,11 @@
 
 mod bench;
 mod conclusion;
+mod crossing;
 mod laws;
 mod session;
 
 pub use conclusion::{Concluded, conclude};
+pub use crossing::sessions_cross;
 pub use laws::without_asyncs_one_end;
 pub use session::{Begun, Session};

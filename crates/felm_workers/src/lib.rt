@@ -15,6 +15,8 @@ mod shares;
 mod sleepers;
 mod tally;
 mod team;
+#[cfg(test)]
+mod tests;
 
 use felm_engine::Bench;
 use felm_meaning::Turn;
