@@ -45,22 +45,25 @@ pub fn felm<F: Files, S: Sink, E: Sink, G: Gate + Sync, R: Threads + Wait + Sync
     // The words are refused exactly where they give no order.
     ensures usage { (result ≡ Status.Usage) ↔ (order_in words.now ≡ None) }
 
-    // Success has appended the result text of a complete journal, in which each event of an async comes after its cause; or the text
-    // of a graph.
+    // Success has appended the result text of a complete journal, in which each event of an async comes
+    // after its cause; or the text of a graph.
     ensures success { result ≡ Status.Success
         → OfPlan (F.bytes files.old) (order_in words.now) (HaveResult (S.bytes out.old) (S.bytes out.new)) }
     // A run that stops has appended the stopped text, one that is full the result text so far.
     ensures turn { (node position : ℕ) → result ≡ Status.Turn node position
-        → OfPlan (F.bytes files.old) (order_in words.now) (HaveStop node position (S.bytes out.old) (S.bytes out.new)) }
+        → OfPlan (F.bytes files.old) (order_in words.now)
+        (HaveStop node position (S.bytes out.old) (S.bytes out.new)) }
     ensures journal { result ≡ Status.Journal
         → OfPlan (F.bytes files.old) (order_in words.now) (HaveFull (S.bytes out.old) (S.bytes out.new)) }
     // Whoever leaves a whole text says that no put of it was refused.
     ensures unrefused { LeavesText result
         → (S.faults out.new ≡ S.faults out.old) × (S.short out.new ≡ S.short out.old) }
 
-    // Read comes only where a load of the file that is named failed in this call, and all else says that no load did.
+    // Read comes only where a load of the file that is named failed in this call, and all else says that
+    // no load did.
     ensures read { (which : Which) → result ≡ Status.Read which → OfOrder (order_in words.now)
-        (λ order. IsSomeAnd (file_of which order) (λ name. Rose (F.faults files.old name) (F.faults files.new name))) }
+        (λ order. IsSomeAnd (file_of which order)
+        (λ name. Rose (F.faults files.old name) (F.faults files.new name))) }
     ensures loaded { ¬ IsRead result → (name : List ℕ) → F.faults files.new name ≡ F.faults files.old name }
     // A text that is too long is named, the program before the script.
     ensures too_long { (which : Which) → result ≡ Status.TooLong which
@@ -72,21 +75,26 @@ pub fn felm<F: Files, S: Sink, E: Sink, G: Gate + Sync, R: Threads + Wait + Sync
     ensures faulty { IsOfTexts result
         → OfTexts (F.bytes files.old) (order_in words.now) (λ order texts. IsFaultOf order texts result) }
 
-    // Each of these comes wherever the texts come to it, and so does the end that is sure, unless a load or a put failed or there was
-    // no memory.
-    ensures exact { (order : OrderValue) (texts : Texts) (expected : Status) → Give (F.bytes files.old) (order_in words.now) order texts
+    // Each of these comes wherever the texts come to it, and so does the end that is sure, unless a load
+    // or a put failed or there was no memory.
+    ensures exact { (order : OrderValue) (texts : Texts) (expected : Status)
+        → Give (F.bytes files.old) (order_in words.now) order texts
         → ComeTo order texts expected → Answers expected result }
     // A default over budget stops the run before its first event, at the least node without one.
-    ensures no_default { (order : OrderValue) (texts : Texts) (node : ℕ) → Give (F.bytes files.old) (order_in words.now) order texts
+    ensures no_default { (order : OrderValue) (texts : Texts) (node : ℕ)
+        → Give (F.bytes files.old) (order_in words.now) order texts
         → LackDefault order texts node → Answers (Status.Turn node 0) result }
     // Texts that can be done, and an outside without faults, give success, unless there was no memory.
-    ensures complete { (order : OrderValue) (texts : Texts) → Give (F.bytes files.old) (order_in words.now) order texts
+    ensures complete { (order : OrderValue) (texts : Texts)
+        → Give (F.bytes files.old) (order_in words.now) order texts
         → CanBeDone (S.bytes out.old) (S.bytes out.new) order texts
         → NoneFailed (F.faults files.old) (F.faults files.new) (S.faults out.old) (S.faults out.new) order
         → (result ≡ Status.Success) ⊎ (result ≡ Status.Memory) }
 
-    // Write comes only where a put of the text failed in this call, and a prefix of it is there; all else says that no put failed.
-    ensures write { result ≡ Status.Write → Rose (S.faults out.old) (S.faults out.new) × (S.short out.new ≡ S.short out.old) }
+    // Write comes only where a put of the text failed in this call, and a prefix of it is there; all else
+    // says that no put failed.
+    ensures write { result ≡ Status.Write
+        → Rose (S.faults out.old) (S.faults out.new) × (S.short out.new ≡ S.short out.old) }
     ensures written { result ≡ Status.Write
         → OfPlan (F.bytes files.old) (order_in words.now) (HavePrefix (S.bytes out.old) (S.bytes out.new)) }
     ensures unfailed { result ≢ Status.Write → S.faults out.new ≡ S.faults out.old }
@@ -98,8 +106,10 @@ pub fn felm<F: Files, S: Sink, E: Sink, G: Gate + Sync, R: Threads + Wait + Sync
         × (S.faults out.new ≡ S.faults out.old) × (S.short out.new ≡ S.short out.old) }
 
     // The line of the status is put to `err`, whole, or a prefix of it where a put was refused in this call.
-    ensures fault { FaultPut (fault_text result (file_named (order_in words.now) result) (limits_named (order_in words.now)))
-        (E.bytes err.old) (E.bytes err.new) (E.faults err.old) (E.faults err.new) (E.short err.old) (E.short err.new) }
+    ensures fault { FaultPut
+        (fault_text result (file_named (order_in words.now) result) (limits_named (order_in words.now)))
+        (E.bytes err.old) (E.bytes err.new) (E.faults err.old) (E.faults err.new)
+        (E.short err.old) (E.short err.new) }
 
     // The files stay as they are, and no count ever falls.
     ensures files { (name : List ℕ) → F.bytes files.new name ≡ F.bytes files.old name }
@@ -125,8 +135,9 @@ fn do_order<F: Files, S: Sink, G: Gate + Sync, R: Threads + Wait + Sync>(
     out: &mut S,
     gate: &G,
 ) -> Status
-    ensures outcome { OrderOutcome (files_of (F.bytes files.old) (F.faults files.old)) (files_of (F.bytes files.new) (F.faults files.new))
-        (order_value order.now) (sink_of (S.bytes out.old) (S.faults out.old) (S.short out.old))
+    ensures outcome { OrderOutcome (files_of (F.bytes files.old) (F.faults files.old))
+        (files_of (F.bytes files.new) (F.faults files.new)) (order_value order.now)
+        (sink_of (S.bytes out.old) (S.faults out.old) (S.short out.old))
         (sink_of (S.bytes out.new) (S.faults out.new) (S.short out.new)) result }
     ensures long { HasLongProgram (F.bytes files.old) (order_value order.now) → IsOfLoad result }
     ensures loaded { ¬ IsRead result → (name : List ℕ) → F.faults files.new name ≡ F.faults files.old name }
@@ -152,7 +163,8 @@ fn end_of_run<F: Files, G: Gate + Sync, R: Threads + Wait + Sync>(
     gate: &G,
 ) -> Result<Ended, Status>
     requires { (order_value order.now).command ≡ command.Run }
-    ensures text { IfOk result (λ ended. HaveText (F.bytes files.old) (order_value order.now) ended.status ended.text.items) }
+    ensures text { IfOk result (λ ended.
+        HaveText (F.bytes files.old) (order_value order.now) ended.status ended.text.items) }
     ensures fault { IfErr result (NoPlan (files_of (F.bytes files.old) (F.faults files.old))
         (files_of (F.bytes files.new) (F.faults files.new)) (order_value order.now)) }
     ensures long { HasLongProgram (F.bytes files.old) (order_value order.now) → IsErrAnd result IsOfLoad }

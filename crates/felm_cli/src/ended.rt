@@ -37,7 +37,8 @@ fn text_of_history(
     closing: Closing,
 ) -> Result<Vec<u8>, Memory>
     requires { IsPrintable (plan_of plan.now) history.now }
-    ensures { IfOk result (λ text. text.items ≡ result_text plan.now.graph plan.now.limits.turn_steps history.now.journal.items closing) }
+    ensures { IfOk result (λ text. text.items
+        ≡ result_text plan.now.graph plan.now.limits.turn_steps history.now.journal.items closing) }
 {
     result_text(alloc, plan, history, closing)
 }

@@ -46,16 +46,19 @@ pub fn felm_once<F: Files, S: Sink, E: Sink>(
         → OfPlan (F.bytes files.old) (order_once words.now) (HaveResult (S.bytes out.old) (S.bytes out.new)) }
     // A run that stops has appended the stopped text, one that is full the result text so far.
     ensures turn { (node position : ℕ) → result ≡ Status.Turn node position
-        → OfPlan (F.bytes files.old) (order_once words.now) (HaveStop node position (S.bytes out.old) (S.bytes out.new)) }
+        → OfPlan (F.bytes files.old) (order_once words.now)
+        (HaveStop node position (S.bytes out.old) (S.bytes out.new)) }
     ensures journal { result ≡ Status.Journal
         → OfPlan (F.bytes files.old) (order_once words.now) (HaveFull (S.bytes out.old) (S.bytes out.new)) }
     // Whoever leaves a whole text says that no put of it was refused.
     ensures unrefused { LeavesText result
         → (S.faults out.new ≡ S.faults out.old) × (S.short out.new ≡ S.short out.old) }
 
-    // Read comes only where a load of the file that is named failed in this call, and all else says that no load did.
+    // Read comes only where a load of the file that is named failed in this call, and all else says that
+    // no load did.
     ensures read { (which : Which) → result ≡ Status.Read which → OfOrder (order_once words.now)
-        (λ order. IsSomeAnd (file_of which order) (λ name. Rose (F.faults files.old name) (F.faults files.new name))) }
+        (λ order. IsSomeAnd (file_of which order)
+        (λ name. Rose (F.faults files.old name) (F.faults files.new name))) }
     ensures loaded { ¬ IsRead result → (name : List ℕ) → F.faults files.new name ≡ F.faults files.old name }
     // A text that is too long is named, the program before the script.
     ensures too_long { (which : Which) → result ≡ Status.TooLong which
@@ -67,21 +70,26 @@ pub fn felm_once<F: Files, S: Sink, E: Sink>(
     ensures faulty { IsOfTexts result
         → OfTexts (F.bytes files.old) (order_once words.now) (λ order texts. IsFaultOf order texts result) }
 
-    // Each of these comes wherever the texts come to it, and so does the end that is sure, unless a load or a put failed or there was
-    // no memory.
-    ensures exact { (order : OrderValue) (texts : Texts) (expected : Status) → Give (F.bytes files.old) (order_once words.now) order texts
+    // Each of these comes wherever the texts come to it, and so does the end that is sure, unless a load
+    // or a put failed or there was no memory.
+    ensures exact { (order : OrderValue) (texts : Texts) (expected : Status)
+        → Give (F.bytes files.old) (order_once words.now) order texts
         → ComeTo order texts expected → Answers expected result }
     // A default over budget stops the run before its first event, at the least node without one.
-    ensures no_default { (order : OrderValue) (texts : Texts) (node : ℕ) → Give (F.bytes files.old) (order_once words.now) order texts
+    ensures no_default { (order : OrderValue) (texts : Texts) (node : ℕ)
+        → Give (F.bytes files.old) (order_once words.now) order texts
         → LackDefault order texts node → Answers (Status.Turn node 0) result }
     // Texts that can be done, and an outside without faults, give success, unless there was no memory.
-    ensures complete { (order : OrderValue) (texts : Texts) → Give (F.bytes files.old) (order_once words.now) order texts
+    ensures complete { (order : OrderValue) (texts : Texts)
+        → Give (F.bytes files.old) (order_once words.now) order texts
         → CanBeDone (S.bytes out.old) (S.bytes out.new) order texts
         → NoneFailed (F.faults files.old) (F.faults files.new) (S.faults out.old) (S.faults out.new) order
         → (result ≡ Status.Success) ⊎ (result ≡ Status.Memory) }
 
-    // Write comes only where a put of the text failed in this call, and a prefix of it is there; all else says that no put failed.
-    ensures write { result ≡ Status.Write → Rose (S.faults out.old) (S.faults out.new) × (S.short out.new ≡ S.short out.old) }
+    // Write comes only where a put of the text failed in this call, and a prefix of it is there; all else
+    // says that no put failed.
+    ensures write { result ≡ Status.Write
+        → Rose (S.faults out.old) (S.faults out.new) × (S.short out.new ≡ S.short out.old) }
     ensures written { result ≡ Status.Write
         → OfPlan (F.bytes files.old) (order_once words.now) (HavePrefix (S.bytes out.old) (S.bytes out.new)) }
     ensures unfailed { result ≢ Status.Write → S.faults out.new ≡ S.faults out.old }
@@ -93,8 +101,10 @@ pub fn felm_once<F: Files, S: Sink, E: Sink>(
         × (S.faults out.new ≡ S.faults out.old) × (S.short out.new ≡ S.short out.old) }
 
     // The line of the status is put to `err`, whole, or a prefix of it where a put was refused in this call.
-    ensures fault { FaultPut (fault_text result (file_named (order_once words.now) result) (limits_named (order_once words.now)))
-        (E.bytes err.old) (E.bytes err.new) (E.faults err.old) (E.faults err.new) (E.short err.old) (E.short err.new) }
+    ensures fault { FaultPut
+        (fault_text result (file_named (order_once words.now) result) (limits_named (order_once words.now)))
+        (E.bytes err.old) (E.bytes err.new) (E.faults err.old) (E.faults err.new)
+        (E.short err.old) (E.short err.new) }
 
     // The files stay as they are, and no count ever falls.
     ensures files { (name : List ℕ) → F.bytes files.new name ≡ F.bytes files.old name }
@@ -129,8 +139,9 @@ pub fn do_once<F: Files, S: Sink>(
     out: &mut S,
 ) -> Status
     requires { (order_value order.now).command ≢ command.Run }
-    ensures outcome { OrderOutcome (files_of (F.bytes files.old) (F.faults files.old)) (files_of (F.bytes files.new) (F.faults files.new))
-        (order_value order.now) (sink_of (S.bytes out.old) (S.faults out.old) (S.short out.old))
+    ensures outcome { OrderOutcome (files_of (F.bytes files.old) (F.faults files.old))
+        (files_of (F.bytes files.new) (F.faults files.new)) (order_value order.now)
+        (sink_of (S.bytes out.old) (S.faults out.old) (S.short out.old))
         (sink_of (S.bytes out.new) (S.faults out.new) (S.short out.new)) result }
     ensures long { HasLongProgram (F.bytes files.old) (order_value order.now) → IsOfLoad result }
     ensures loaded { ¬ IsRead result → (name : List ℕ) → F.faults files.new name ≡ F.faults files.old name }
@@ -147,7 +158,8 @@ pub fn do_once<F: Files, S: Sink>(
 /// What an order leaves on one thread, before it is put.
 fn end_once<F: Files>(alloc: Global, order: &Order<'_>, files: &mut F) -> Result<Ended, Status>
     requires { (order_value order.now).command ≢ command.Run }
-    ensures text { IfOk result (λ ended. HaveText (F.bytes files.old) (order_value order.now) ended.status ended.text.items) }
+    ensures text { IfOk result (λ ended.
+        HaveText (F.bytes files.old) (order_value order.now) ended.status ended.text.items) }
     ensures fault { IfErr result (NoPlan (files_of (F.bytes files.old) (F.faults files.old))
         (files_of (F.bytes files.new) (F.faults files.new)) (order_value order.now)) }
     ensures long { HasLongProgram (F.bytes files.old) (order_value order.now) → IsErrAnd result IsOfLoad }
@@ -162,7 +174,8 @@ fn end_once<F: Files>(alloc: Global, order: &Order<'_>, files: &mut F) -> Result
 /// What the command of an order leaves of a plan on one thread.
 fn leave(alloc: Global, order: &Order<'_>, plan: &Plan) -> Result<Ended, Memory>
     requires { (order_value order.now).command ≢ command.Run }
-    ensures text { IfOk result (λ ended. Leaves (order_value order.now).command (plan_of plan.now) ended.status ended.text.items) }
+    ensures text { IfOk result (λ ended.
+        Leaves (order_value order.now).command (plan_of plan.now) ended.status ended.text.items) }
     ensures leaves { IfOk result (λ ended. LeavesText ended.status) }
 {
     match order {
@@ -174,7 +187,8 @@ fn leave(alloc: Global, order: &Order<'_>, plan: &Plan) -> Result<Ended, Memory>
 
 /// Puts the whole text of an end.
 pub fn put_end<S: Sink>(ended: &Ended, out: &mut S) -> Status
-    ensures put { PutAs ended.now.status ended.now.text.items (sink_of (S.bytes out.old) (S.faults out.old) (S.short out.old))
+    ensures put { PutAs ended.now.status ended.now.text.items
+        (sink_of (S.bytes out.old) (S.faults out.old) (S.short out.old))
         (sink_of (S.bytes out.new) (S.faults out.new) (S.short out.new)) result }
     ensures counts { (S.faults out.old ≤ S.faults out.new) × (S.short out.old ≤ S.short out.new) }
 {

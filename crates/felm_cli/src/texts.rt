@@ -39,7 +39,8 @@ fn load_text<F: Files>(
     which: Which,
 ) -> Result<Vec<u8>, Status>
     ensures text { LoadedOrFault (λ text. text.items) (files_of (F.bytes files.old) (F.faults files.old))
-        (files_of (F.bytes files.new) (F.faults files.new)) (option_map (λ text. text.now) name.entry) which result }
+        (files_of (F.bytes files.new) (F.faults files.new)) (option_map (λ text. text.now) name.entry)
+        which result }
     ensures bound { IfOk result (λ text. length text.items ≤ most_bytes which) }
     ensures loaded { (other : List ℕ) → UnlessRead result (F.faults files.new other ≡ F.faults files.old other) }
     ensures files { (other : List ℕ) → F.bytes files.new other ≡ F.bytes files.old other }
@@ -62,7 +63,8 @@ fn load_text<F: Files>(
 
 /// The texts of an order. The length of the program is judged before the script is loaded.
 fn load_texts<F: Files>(alloc: Global, files: &mut F, order: &Order<'_>) -> Result<Texts, Status>
-    ensures texts { IfOk result (λ texts. AreLoaded (F.bytes files.old) (order_value order.now).texts texts.program.items texts.script.items) }
+    ensures texts { IfOk result (λ texts.
+        AreLoaded (F.bytes files.old) (order_value order.now).texts texts.program.items texts.script.items) }
     ensures bound { IfOk result (λ texts. length texts.program.items ≤ 16777216) }
     ensures fault { IfErr result (NoPlan (files_of (F.bytes files.old) (F.faults files.old))
         (files_of (F.bytes files.new) (F.faults files.new)) (order_value order.now)) }
@@ -79,7 +81,8 @@ fn load_texts<F: Files>(alloc: Global, files: &mut F, order: &Order<'_>) -> Resu
 /// The plan of the texts of an order. They are dropped then, so that the run and its result have the
 /// memory.
 pub fn read_order<F: Files>(alloc: Global, files: &mut F, order: &Order<'_>) -> Result<Plan, Status>
-    ensures plan { IfOk result (λ plan. OfTexts (F.bytes files.old) (Some (order_value order.now)) (λ order texts. IsPlanOf order texts (planned plan))) }
+    ensures plan { IfOk result (λ plan. OfTexts (F.bytes files.old) (Some (order_value order.now))
+        (λ order texts. IsPlanOf order texts (planned plan))) }
     ensures limits { IfOk result (λ plan. plan.limits ≡ (order_value order.now).limits) }
     ensures fault { IfErr result (NoPlan (files_of (F.bytes files.old) (F.faults files.old))
         (files_of (F.bytes files.new) (F.faults files.new)) (order_value order.now)) }
