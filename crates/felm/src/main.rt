@@ -1,10 +1,12 @@
-//! `felm sync PROGRAM SCRIPT` runs a program on a script of events and prints what it says, and
-//! `felm graph PROGRAM` prints the graph of its signals.
+//! `felm run PROGRAM SCRIPT` runs a program on a script of events with workers and prints what it says,
+//! `felm sync PROGRAM SCRIPT` does so on one thread, and `felm graph PROGRAM` prints the graph of its
+//! signals.
 #![tactic(auto)]
 
-use felm_cli::{Status, felm_once, put_fault};
+use felm_cli::{Status, felm, put_fault};
 use felm_io::{DiskFiles, StreamSink};
 use felm_term::Limits;
+use felm_workers::FreeGate;
 use std::process::ExitCode;
 use std::{env, io, rt};
 
@@ -25,7 +27,15 @@ fn main(rt: HostRuntime) -> ExitCode {
         Ok(words) => {
             let mut files = DiskFiles::make(&rt);
             let mut out = StreamSink::make(rt.stdout());
-            felm_once(rt.alloc(), words.as_slice(), &mut files, &mut out, &mut err)
+            felm(
+                &rt,
+                rt.alloc(),
+                words.as_slice(),
+                &mut files,
+                &mut out,
+                &mut err,
+                &FreeGate,
+            )
         }
         Err(status) => {
             let _ = put_fault(&status, "", &Limits::DEFAULT, &mut err);

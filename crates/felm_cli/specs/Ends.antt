@@ -1,37 +1,48 @@
--- How an order ends: why its texts have no plan or graph, or how it ends where they do, and the text of that end.
-use Rattle.std.specs.Prelude.{◌≡◌, ℕ, ⊤, List}
-use Rattle.felm_term.specs.declared.event.Event.{Event}
-use Rattle.felm_term.specs.declared.limits.Limits.{Limits}
-use Rattle.felm_graph.specs.GraphValue.{GraphValue}
+-- What a command leaves of a plan: how its run ends, and the text of that end.
+use Rattle.std.specs.Prelude.{◌≡◌, ℕ, ⊤, List, length}
+use Rattle.felm_meaning.specs.declared.history.History.{History}
 use Rattle.felm_meaning.specs.declared.history.RunEnd.{RunEnd}
 use Rattle.felm_meaning.specs.declared.history.RunEnd.TheVariants.{Complete, Stopped, Full}
-use Rattle.felm_meaning.specs.Journals.{plain_journal}
-use Rattle.felm_plain.specs.Ends.{IsEndOf}
+use Rattle.felm_meaning.specs.PlanValue.{PlanValue}
+use Rattle.felm_meaning.specs.Histories.{IsHistoryFor, IsConcluded}
+use Rattle.felm_plain.specs.Ends.{IsEndFor}
 use Rattle.felm_printer.specs.declared.result.Closing.TheVariants as closing
 use Rattle.felm_printer.specs.declared.status.Status.{Status}
 use Rattle.felm_printer.specs.declared.status.Status.TheVariants.{Success, Turn, Journal}
-use Rattle.felm_printer.specs.Results.{result_text, stopped_text}
+use Rattle.felm_printer.specs.Results.{NamesSources, result_text, stopped_text}
 use Rattle.felm_printer.specs.Graphs.{graph_text}
-use Rattle.felm_plans.specs.Plans.{Planned, HavePlan, HasGraph, IsGraphFault, IsPlanFault}
-use Rattle.felm_cli.specs.Words.{OrderValue, Sync, Graph}
+use Rattle.felm_cli.specs.declared.words.Command.{Command}
+use Rattle.felm_cli.specs.declared.words.Command.TheVariants.{Sync, Graph, Run}
 
--- why the texts of an order have no plan, or no graph, once their lengths are judged
-abbrev pub AreFaulty : OrderValue → List ℕ → List ℕ → Status → Type 0
-AreFaulty (Sync p s limits) program script status = IsPlanFault limits.stage_steps program script status
-AreFaulty (Graph p limits) program script status = IsGraphFault limits.stage_steps program status
+-- ---- how a run ends
 
--- the journal of a plan on one thread
-abbrev pub journal_of : Limits → Planned → List Event
-journal_of limits plan = plain_journal plan.graph limits.turn_steps plan.script limits.journal
+-- a history that can be printed: its journal is of sources, and has one message an event
+pub record IsPrintable (plan : PlanValue) (h : History) : Type 0 where
+  pub sources : NamesSources plan.graph h.journal.items
+  pub one_each : length h.outputs.items ≡ length h.journal.items
+  pub history : IsHistoryFor plan h
 
--- the status and the text of the end of a run
-abbrev pub IsTextOfEnd : Limits → Planned → RunEnd → Status → List ℕ → Type 0
-IsTextOfEnd limits plan (Complete history) status text =
-    (status ≡ Success) × (text ≡ result_text plan.graph limits.turn_steps (journal_of limits plan) closing.End)
-IsTextOfEnd limits plan (Stopped journal node position) status text =
-    (status ≡ Turn node position) × (text ≡ stopped_text plan.graph (journal_of limits plan) node position)
-IsTextOfEnd limits plan (Full history) status text =
-    (status ≡ Journal) × (text ≡ result_text plan.graph limits.turn_steps (journal_of limits plan) closing.Full)
+-- an end to which a command may run a plan: on one thread the one of its plain journal, and with workers any
+abbrev pub MayEnd : Command → PlanValue → RunEnd → Type 0
+MayEnd Sync plan end = IsEndFor plan end
+MayEnd Run plan end = IsConcluded plan end
+MayEnd Graph plan end = ⊥
+
+-- ---- texts
+
+-- the status and the text of an end
+abbrev pub IsTextOfEnd : PlanValue → RunEnd → Status → List ℕ → Type 0
+IsTextOfEnd plan (Complete h) status text =
+    (status ≡ Success) × (text ≡ result_text plan.graph plan.budget h.journal.items closing.End)
+IsTextOfEnd plan (Stopped journal node position) status text =
+    (status ≡ Turn node position) × (text ≡ stopped_text plan.graph journal.items node position)
+IsTextOfEnd plan (Full h) status text =
+    (status ≡ Journal) × (text ≡ result_text plan.graph plan.budget h.journal.items closing.Full)
+
+-- what a command may leave of a plan: this text, with this status
+abbrev pub Leaves : Command → PlanValue → Status → List ℕ → Type 0
+Leaves Graph plan status text = (status ≡ Success) × (text ≡ graph_text plan.graph)
+Leaves command plan status text = (end : RunEnd) × MayEnd command plan end × IsTextOfEnd plan end status text
 
 -- a status that leaves a text
 abbrev pub LeavesText : Status → Type 0
@@ -39,15 +50,3 @@ LeavesText Success = ⊤
 LeavesText (Turn node position) = ⊤
 LeavesText Journal = ⊤
 LeavesText _ = ⊥
-
--- the run of a plan on one thread ends with this status, and leaves this text
-abbrev pub RunEnds : Limits → Planned → Status → List ℕ → Type 0
-RunEnds limits plan status text =
-    (end : RunEnd) × IsEndOf plan.graph limits.turn_steps plan.script limits.journal end × IsTextOfEnd limits plan end status text
-
--- an order whose texts are these ends with this status, and leaves this text
-abbrev pub EndsWith : OrderValue → Status → List ℕ → List ℕ → List ℕ → Type 0
-EndsWith (Sync p s limits) status text program script =
-    (plan : Planned) × HavePlan program script limits.stage_steps plan × RunEnds limits plan status text
-EndsWith (Graph p limits) status text program script =
-    (g : GraphValue) × HasGraph program limits.stage_steps g × (status ≡ Success) × (text ≡ graph_text g)

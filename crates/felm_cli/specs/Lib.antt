@@ -1,6 +1,8 @@
 pub mod Words
 pub mod Names
 pub mod Views
+pub mod Outside
+pub mod Texts
 pub mod Ends
 pub mod Outcomes
 pub mod Promises

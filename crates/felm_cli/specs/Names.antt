@@ -3,7 +3,7 @@ use Rattle.std.specs.Prelude.{ℕ, List, [], Option, Some, None, unwrap_or}
 use Rattle.felm_term.specs.declared.limits.Limits.{Limits}
 use Rattle.felm_printer.specs.declared.status.Status.{Status}
 use Rattle.felm_printer.specs.declared.status.Status.TheVariants.{Read, TooLong}
-use Rattle.felm_cli.specs.Words.{OrderValue, default_limits, file_of, limits_of}
+use Rattle.felm_cli.specs.Words.{OrderValue, default_limits, file_of}
 
 -- the file that the line of a status names, if it names one
 abbrev pub file_named : Option OrderValue → Status → List ℕ
@@ -13,5 +13,5 @@ file_named order status = []
 
 -- the limits of the order, or the defaults where there is none
 abbrev pub limits_named : Option OrderValue → Limits
-limits_named (Some order) = limits_of order
+limits_named (Some order) = order.limits
 limits_named None = default_limits

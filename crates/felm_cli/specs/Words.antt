@@ -1,21 +1,63 @@
 -- The order that words give.
-use Rattle.std.specs.Prelude.{ℕ, ◌==◌, ◌&&◌, Bool, false, not, List, [], ◌∷◌, bytes_eq, codes, Option, Some, None, if◌then◌else◌}
+use Rattle.std.specs.Prelude.{ℕ, ◌==◌, ◌&&◌, Bool, true, false, not, List, [], ◌∷◌, map, bytes_eq, codes, string_bytes, Option, Some, None, if◌then◌else◌}
+use Rattle.std.specs.declared.string.String.{String}
+use Rattle.std.specs.List.{zip}
+use Rattle.std.specs.Option.{option_and_then}
+use Rattle.std.specs.Map.{lookup}
 use Rattle.std.proofs.Common.{lit≤}
 use Rattle.felm_term.specs.declared.limits.Limits.{Limits}
 use Rattle.felm_printer.specs.declared.status.Which.{Which}
-use Rattle.felm_printer.specs.declared.status.Which.TheVariants as which
+use Rattle.felm_printer.specs.declared.status.Which.TheVariants.{Program, Script}
+use Rattle.felm_cli.specs.declared.words.Command.{Command}
+use Rattle.felm_cli.specs.declared.words.Command.TheVariants.{Sync, Graph, Run}
 
--- what a command does, with the names of its files and its limits
-pub data OrderValue : Type 0 where
-  -- run the program of one file on the script of another
-  Sync : (program script : List ℕ) (limits : Limits) → OrderValue
-  -- print the graph of a program
-  Graph : (program : List ℕ) (limits : Limits) → OrderValue
+-- ---- orders
+
+-- names or bytes of texts, each with the kind of text that it is
+abbrev pub Texts : Type 0
+Texts = List (Which × List ℕ)
+
+-- what is to be done: a command, on the texts of these names, in the order in which they are loaded
+pub record OrderValue : Type 0 where
+  pub command : Command
+  pub texts : Texts
+  pub limits : Limits
+
+abbrev pub is_kind : Which → Which → Bool
+is_kind Program Program = true
+is_kind Script Script = true
+is_kind which other = false
+
+-- the name of the file of this kind, if an order has one
+abbrev pub file_of : Which → OrderValue → Option (List ℕ)
+file_of which order = lookup (is_kind which) order.texts
+
+-- ---- words
+
+-- the command that a word names
+abbrev pub command_of : List ℕ → Option Command
+command_of word =
+    if bytes_eq word (codes "sync") then Some Sync
+    else (if bytes_eq word (codes "graph") then Some Graph
+    else (if bytes_eq word (codes "run") then Some Run
+    else None))
+
+-- which texts a command works on
+abbrev pub kinds_of : Command → List Which
+kinds_of Sync = Program ∷ Script ∷ []
+kinds_of Graph = Program ∷ []
+kinds_of Run = Program ∷ Script ∷ []
 
 -- a file name isn't empty and doesn't begin with a minus sign
 abbrev pub is_file : List ℕ → Bool
 is_file [] = false
 is_file (c ∷ cs) = not (c == 45)
+
+-- as many words as kinds, each of them a file name
+abbrev pub are_files : List Which → List (List ℕ) → Bool
+are_files [] [] = true
+are_files (kind ∷ kinds) (word ∷ words) = are_files kinds words && is_file word
+are_files kinds words = false
 
 -- the limits of a command that names none
 abbrev pub default_limits : Limits
@@ -32,29 +74,26 @@ default_limits = record {
   journal_in_range = (lit≤ tt, lit≤ tt);
 }
 
--- the order of two words
-abbrev pub order_of_two : List ℕ → List ℕ → Option OrderValue
-order_of_two command program = if bytes_eq command (codes "graph") && is_file program then Some (Graph program default_limits) else None
-
--- the order of three words
-abbrev pub order_of_three : List ℕ → List ℕ → List ℕ → Option OrderValue
-order_of_three command program script =
-    if bytes_eq command (codes "sync") && is_file program && is_file script then Some (Sync program script default_limits) else None
+-- the order of a command with these words behind it
+abbrev pub order_with : Command → List (List ℕ) → Option OrderValue
+order_with command words =
+    if are_files (kinds_of command) words
+    then Some (record { command = command; texts = zip (kinds_of command) words; limits = default_limits })
+    else None
 
 -- the order of words, if a command takes them
 abbrev pub order_of : List (List ℕ) → Option OrderValue
-order_of (command ∷ program ∷ []) = order_of_two command program
-order_of (command ∷ program ∷ script ∷ []) = order_of_three command program script
-order_of words = None
+order_of [] = None
+order_of (word ∷ words) = option_and_then (λ command. order_with command words) (command_of word)
 
--- the file that an order names, if it names one
-abbrev pub file_of : Which → OrderValue → Option (List ℕ)
-file_of which.Program (Sync program script limits) = Some program
-file_of which.Script (Sync program script limits) = Some script
-file_of which.Program (Graph program limits) = Some program
-file_of which.Script (Graph program limits) = None
+abbrev pub order_in : {A : Type 0} → List (String A) → Option OrderValue
+order_in words = order_of (map string_bytes words)
 
--- the limits of an order
-abbrev pub limits_of : OrderValue → Limits
-limits_of (Sync program script limits) = limits
-limits_of (Graph program limits) = limits
+-- an order that is done on one thread
+abbrev pub unless_run : Command → OrderValue → Option OrderValue
+unless_run Run order = None
+unless_run command order = Some order
+
+-- the order of words without `run`, which counts as none
+abbrev pub order_once : {A : Type 0} → List (String A) → Option OrderValue
+order_once words = option_and_then (λ order. unless_run order.command order) (order_in words)

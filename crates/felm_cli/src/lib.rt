@@ -1,12 +1,16 @@
 //! The top call: from words and the bytes of files to the bytes of a result.
 #![tactic(auto)]
 
+mod call;
 mod ended;
 mod laws;
 mod once;
 mod over_sure;
+mod run;
+mod texts;
 mod words;
 
+pub use call::felm;
 pub use felm_printer::{
     ScriptCause, StageCause, Status, SyntaxCause, TypingCause, Which, put_fault,
 };

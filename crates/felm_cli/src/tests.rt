@@ -1,4 +1,5 @@
 mod outside;
 mod programs;
 mod refusals;
+mod runs;
 mod texts;

@@ -33,7 +33,8 @@ fn new_name<'a, 'b>(text: &'a [u8], seen: &InputMap, tokens: &'b [Token]) -> Rea
 /// What is declared of a name behind `int`.
 #[tactic(auto, unfolding(felm_reading::specs::Reading::int_input))]
 fn int_input<'a>(text: &[u8], name: &str, tokens: &'a [Token]) -> Reading<'a, Declared>
-    ensures reads { Gives (λ x. (declared_input name.now x.0, x.1.now)) result (int_input text.now name.now tokens.now) }
+    ensures reads { Gives (λ x. (declared_input name.now x.0, x.1.now)) result
+        (int_input text.now name.now tokens.now) }
     ensures not_memory { IfErr result (λ fault. fault ≢ ParseFault.Memory) }
 {
     let rest = expect(text, Symbol::Equals, after(tokens))?;
@@ -50,7 +51,8 @@ fn int_input<'a>(text: &[u8], name: &str, tokens: &'a [Token]) -> Reading<'a, De
 /// What is declared of a name behind `unit`.
 #[tactic(auto, unfolding(felm_reading::specs::Reading::unit_input))]
 fn unit_input<'a>(text: &[u8], name: &str, tokens: &'a [Token]) -> Reading<'a, Declared>
-    ensures reads { Gives (λ x. (declared_input name.now x.0, x.1.now)) result (unit_input text.now name.now tokens.now) }
+    ensures reads { Gives (λ x. (declared_input name.now x.0, x.1.now)) result
+        (unit_input text.now name.now tokens.now) }
     ensures not_memory { IfErr result (λ fault. fault ≢ ParseFault.Memory) }
 {
     let rest = expect(text, Symbol::Equals, after(tokens))?;
@@ -68,7 +70,8 @@ fn unit_input<'a>(text: &[u8], name: &str, tokens: &'a [Token]) -> Reading<'a, D
 /// What is declared of a name behind its colon.
 #[tactic(auto, unfolding(felm_reading::specs::Reading::described))]
 fn described<'a>(text: &[u8], name: &str, tokens: &'a [Token]) -> Reading<'a, Declared>
-    ensures reads { Gives (λ x. (declared_input name.now x.0, x.1.now)) result (described text.now name.now tokens.now) }
+    ensures reads { Gives (λ x. (declared_input name.now x.0, x.1.now)) result
+        (described text.now name.now tokens.now) }
     ensures not_memory { IfErr result (λ fault. fault ≢ ParseFault.Memory) }
 {
     if has_word(WordKind::Int, tokens) {
@@ -89,7 +92,8 @@ pub fn declaration<'a, 'b>(
     seen: &InputMap,
     tokens: &'b [Token],
 ) -> Result<(&'a str, Declared, &'b [Token]), ParseFault>
-    ensures reads { Gives (λ x. (declared_input x.0.now x.1, x.2.now)) result (declaration text.now seen.now tokens.now) }
+    ensures reads { Gives (λ x. (declared_input x.0.now x.1, x.2.now)) result
+        (declaration text.now seen.now tokens.now) }
     ensures new { IfOk result (λ x. list_any (bytes_eq x.0.now) (names_of seen.now) ≡ false) }
     ensures not_memory { IfErr result (λ fault. fault ≢ ParseFault.Memory) }
 {

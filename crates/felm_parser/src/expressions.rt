@@ -54,7 +54,8 @@ pub fn whole<'a>(alloc: Global, text: &[u8], room: u32, tokens: &'a [Token]) -> 
 #[cycle(expressions)]
 #[tactic(auto, unfolding(felm_reading::specs::Reading::expr, felm_reading::specs::Reading::disjunction, felm_reading::specs::Reading::part_of))]
 fn expr<'a>(alloc: Global, text: &[u8], room: u32, tokens: &'a [Token]) -> Reading<'a, Expr>
-    ensures { Gives (λ x. (x.0, x.1.now)) result (expr text.now (reads_in text.now room) (type_in text.now room) tokens.now) }
+    ensures { Gives (λ x. (x.0, x.1.now)) result
+        (expr text.now (reads_in text.now room) (type_in text.now room) tokens.now) }
 {
     if has_mark(Symbol::Backslash, tokens) {
         return function(alloc, text, room, tokens);
@@ -72,7 +73,8 @@ fn expr<'a>(alloc: Global, text: &[u8], room: u32, tokens: &'a [Token]) -> Readi
 #[cycle(expressions)]
 #[tactic(auto, unfolding(felm_reading::specs::Reading::function))]
 fn function<'a>(alloc: Global, text: &[u8], room: u32, tokens: &'a [Token]) -> Reading<'a, Expr>
-    ensures { Gives (λ x. (x.0, x.1.now)) result (function text.now (reads_in text.now room) (type_in text.now room) tokens.now) }
+    ensures { Gives (λ x. (x.0, x.1.now)) result
+        (function text.now (reads_in text.now room) (type_in text.now room) tokens.now) }
 {
     let (name, rest) = name(text, after(tokens))?;
     let type_tokens = expect(text, Symbol::Colon, rest)?;
@@ -153,7 +155,8 @@ fn chain<'a>(
     room: u32,
     tokens: &'a [Token],
 ) -> Reading<'a, Expr>
-    ensures { Gives (λ x. (x.0, x.1.now)) result (chain_of text.now (reads_in text.now room) level tokens.now) }
+    ensures { Gives (λ x. (x.0, x.1.now)) result
+        (chain_of text.now (reads_in text.now room) level tokens.now) }
 {
     let (mut left, mut rest) = part(alloc, text, level, room, tokens)?;
     let mut room = room;
@@ -181,7 +184,8 @@ fn part<'a>(
     room: u32,
     tokens: &'a [Token],
 ) -> Reading<'a, Expr>
-    ensures { Gives (λ x. (x.0, x.1.now)) result (part_of text.now (reads_in text.now room) level tokens.now) }
+    ensures { Gives (λ x. (x.0, x.1.now)) result
+        (part_of text.now (reads_in text.now room) level tokens.now) }
 {
     match level {
         Level::Or => chain(alloc, text, Level::And, room, tokens),
@@ -407,7 +411,8 @@ fn bracketed<'a>(
     at: usize,
     tokens: &'a [Token],
 ) -> Reading<'a, Expr>
-    ensures { Gives (λ x. (x.0, x.1.now)) result (bracketed text.now (reads_in text.now room) at tokens.now) }
+    ensures { Gives (λ x. (x.0, x.1.now)) result
+        (bracketed text.now (reads_in text.now room) at tokens.now) }
 {
     if has_mark(Symbol::CloseBracket, tokens) {
         return Ok((

@@ -43,7 +43,8 @@ fn main_of(alloc: Global, text: &[u8], room: u32, tokens: &[Token]) -> Result<Ex
 /// The program that the tokens are, in which tokens may nest so deeply.
 #[tactic(auto, using(crate::proofs::Declares::declares))]
 fn program(alloc: Global, text: &[u8], room: u32, tokens: &[Token]) -> Result<Program, ParseFault>
-    ensures { Gives (λ program. (program.inputs, program.main)) result (program_after text.now room [] tokens.now) }
+    ensures { Gives (λ program. (program.inputs, program.main)) result
+        (program_after text.now room [] tokens.now) }
 {
     let mut inputs = InputMap::make(alloc);
     let mut rest = tokens;
@@ -65,7 +66,8 @@ pub fn parse(alloc: Global, text: &[u8], tokens: &[Token]) -> Result<Program, Pa
     ensures program { IfOk result (λ program. IsProgram text.now tokens.now program) }
     ensures accepts { (program : Program) → IsProgram text.now tokens.now program
         → MatchResult result (λ found. found ≡ program) (λ fault. fault ≡ ParseFault.Memory) }
-    ensures size { IfOk result (λ program. length program.inputs + binders program.main ≤ length text.now) }
+    ensures size { IfOk result (λ program.
+        length program.inputs + binders program.main ≤ length text.now) }
 
     // A refusal is the first fault, and the first fault is refused.
     ensures fault { IfErr result (λ fault. IfSome (fault_of fault)

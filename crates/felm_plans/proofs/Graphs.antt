@@ -1,6 +1,6 @@
 -- Programs and their graphs, scripts and their events: that there is one at most, and what it is.
 use Rattle.std.proofs.Common.{◌≡◌, ℕ, ◌≤◌, List, [], length, Some, None, refl, sym, ap, ◌∙◌, subst, arith}
-use Rattle.std.specs.Prelude.{Ok, Err, IfOk, IfErr, IsTrue, Result}
+use Rattle.std.specs.Prelude.{Ok, Err, IsTrue}
 use Rattle.felm_term.specs.CoreType.{CoreType, Unit, Int, Arrow, Signal, is_simple_signal}
 use Rattle.felm_term.specs.Typing.{HasType}
 use Rattle.felm_term.specs.Inputs.{signal_types}
@@ -29,8 +29,7 @@ use Rattle.felm_printer.specs.declared.status.StageCause.TheVariants.{Over, Larg
 use Rattle.felm_script.specs.Script.{script_of}
 use Rattle.felm_script.proofs.Fits.{fit}
 use Rattle.felm_plans.specs.Faults.{IsStageFault}
-use Rattle.felm_plans.specs.Plans.{Planned, HavePlan, HasGraph, IsTypedText, IsStagedAs, IsStagedTerm, IsUnstaged, IsTermFault, IsGraphFault, IsPlanFault, OrMemory}
-use Rattle.felm_plans.specs.Laws.{OnePlan, OneGraph}
+use Rattle.felm_plans.specs.Plans.{Planned, HavePlan, IsTypedText, IsStagedAs, IsStagedTerm, IsUnstaged, IsTermFault, IsPlanFault, OrMemory}
 use Rattle.felm_plans.proofs.Refusals.{one_text}
 
 -- a program has one core term at most
@@ -79,18 +78,14 @@ pub one_stage_fault : (program : Program) (budget : ℕ) (one other : StageCause
 one_stage_fault program budget one other p q =
     one_term_fault program.inputs q.0 budget one other (subst (λ t. IsStageFault program.inputs budget t one) (one_term program p.0 q.0 p.1 q.1) p.2) q.2
 
--- ---- what a text and two texts come to
-
-pub one_graph : OneGraph
-one_graph text budget one other p q =
-    let same = one_text text q.program p.program q.typed.text_of p.typed.text_of in
-    one_staged p.program budget one other p.staged (subst (λ (read : Program). IsStagedAs read budget other) same q.staged)
+-- ---- plans
 
 -- one script has one list of events at most
 pub one_events : (inputs : List InputDecl) (script : List ℕ) (one other : List Event) → script_of inputs script ≡ Ok one → script_of inputs script ≡ Ok other → one ≡ other
 one_events inputs script one other p q = let e : Ok one ≡ Ok other = sym p ∙ q in cc
 
-pub one_plan : OnePlan
+-- two texts have at most one plan
+pub one_plan : (program script : List ℕ) (budget : ℕ) (one other : Planned) → HavePlan program script budget one → HavePlan program script budget other → one ≡ other
 one_plan program script budget one other p q =
     let same = one_text program q.read p.read q.typed.text_of p.typed.text_of in
     let graphs = one_staged p.read budget one.graph other.graph p.staged (subst (λ (read : Program). IsStagedAs read budget other.graph) same q.staged) in
@@ -150,28 +145,6 @@ module _ (text : List ℕ) (budget : ℕ) (program : Program) (inputs : List Inp
 
   unstaged_of : (cause : StageCause) → IsStageFault inputs budget term cause → IsUnstaged program budget cause
   unstaged_of cause h = (term, is_term, subst (λ is. IsStageFault is budget term cause) are_inputs h)
-
-  pub has_graph : (r : Result GraphValue Status) → IfOk r (IsStagedTerm inputs term budget) → IfOk r (HasGraph text budget)
-  has_graph (Ok g) h = record { program = program; typed = typed_text; staged = staged_of g h }
-  has_graph (Err status) h = tt
-
-  graph_fault : (status : Status) → OrMemory (IsTermFault inputs term budget) status → OrMemory (IsGraphFault budget text) status
-  graph_fault (status.Stage cause) h = record { program = program; typed = typed_text; unstaged = unstaged_of cause h }
-  graph_fault status.Memory h = tt
-  graph_fault status.Success h = absurd h
-  graph_fault status.Usage h = absurd h
-  graph_fault (status.Read w) h = absurd h
-  graph_fault (status.TooLong w) h = absurd h
-  graph_fault (status.Syntax cause at) h = absurd h
-  graph_fault (status.Typing cause at) h = absurd h
-  graph_fault (status.Script cause line) h = absurd h
-  graph_fault (status.Turn node position) h = absurd h
-  graph_fault status.Journal h = absurd h
-  graph_fault status.Write h = absurd h
-
-  pub graph_faults : (r : Result GraphValue Status) → IfErr r (OrMemory (IsTermFault inputs term budget)) → IfErr r (OrMemory (IsGraphFault budget text))
-  graph_faults (Ok g) h = tt
-  graph_faults (Err status) h = graph_fault status h
 
   module _ (script : List ℕ) (events : List Event) (are_events : script_of inputs script ≡ Ok events) where
     events_of : script_of program.inputs script ≡ Ok events

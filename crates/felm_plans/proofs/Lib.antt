@@ -1,3 +1,4 @@
 pub mod Refusals
 pub mod Graphs
 pub mod Texts
+pub mod Outcomes

@@ -1,25 +1,23 @@
 -- What the laws of this crate say.
-use Rattle.std.specs.Prelude.{◌≡◌, ◌⊎◌, ℕ, List}
+use Rattle.std.specs.Prelude.{◌≡◌, ◌⊎◌, ℕ, List, Result}
 use Rattle.felm_term.specs.declared.event.Event.{Event}
 use Rattle.felm_syntax.specs.ProgramText.{IsProgramText}
 use Rattle.felm_syntax.specs.declared.program.Program.{Program}
 use Rattle.felm_types.specs.Typed.{IsTyped}
-use Rattle.felm_graph.specs.GraphValue.{GraphValue}
 use Rattle.felm_meaning.specs.Journals.{IsLegal}
 use Rattle.felm_printer.specs.declared.result.Closing.{Closing}
+use Rattle.felm_printer.specs.declared.status.Status.{Status}
 use Rattle.felm_printer.specs.declared.status.SyntaxCause.{SyntaxCause}
 use Rattle.felm_printer.specs.declared.status.TypingCause.{TypingCause}
 use Rattle.felm_printer.specs.Results.{result_text, stopped_text}
 use Rattle.felm_plans.specs.Faults.{IsSyntaxFault, IsTypingFault}
-use Rattle.felm_plans.specs.Plans.{Planned, HavePlan, HasGraph}
+use Rattle.felm_plans.specs.Plans.{Planned, HavePlan, ComeTo}
 
--- two texts have at most one plan
-abbrev pub OnePlan : Type 0
-OnePlan = (program script : List ℕ) (budget : ℕ) (one other : Planned) → HavePlan program script budget one → HavePlan program script budget other → one ≡ other
-
--- a text has at most one graph
-abbrev pub OneGraph : Type 0
-OneGraph = (program : List ℕ) (budget : ℕ) (one other : GraphValue) → HasGraph program budget one → HasGraph program budget other → one ≡ other
+-- two texts come to at most one plan or fault
+abbrev pub TextsComeToOnePlan : Type 0
+TextsComeToOnePlan =
+    (budget : ℕ) (program script : List ℕ) (one other : Result Planned Status) → ComeTo budget program script one → ComeTo budget program script other
+    → one ≡ other
 
 -- of a plan of two texts, legal journals with equal result texts are equal, and so are those with equal stopped texts
 abbrev pub TextsNameTheirJournals : Type 0

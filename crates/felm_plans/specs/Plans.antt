@@ -1,5 +1,5 @@
--- The plan of two texts, and the graph of one, or why they have none: the first case of the order of work that applies.
-use Rattle.std.specs.Prelude.{◌≡◌, ℕ, ⊤, Bool, List, length, nat_le, Some, Ok, Err}
+-- The plan of two texts, or why they have none: the first case of the order of work that applies.
+use Rattle.std.specs.Prelude.{◌≡◌, ℕ, ⊤, List, Some, Result, Ok, Err}
 use Rattle.felm_term.specs.CoreTerm.{CoreTerm}
 use Rattle.felm_term.specs.declared.event.Event.{Event}
 use Rattle.felm_term.specs.declared.input.InputDecl.{InputDecl}
@@ -17,10 +17,6 @@ use Rattle.felm_printer.specs.declared.status.Status.TheVariants.{Syntax, Typing
 use Rattle.felm_printer.specs.declared.status.ScriptCause.{ScriptCause}
 use Rattle.felm_printer.specs.declared.status.StageCause.{StageCause}
 use Rattle.felm_plans.specs.Faults.{IsSyntaxFault, IsTypingFault, IsStageFault, type_fault, script_fault}
-
--- at most 16,777,216 bytes
-abbrev pub is_short : List ℕ → Bool
-is_short text = nat_le (length text) 16777216
 
 -- ---- programs
 
@@ -40,18 +36,6 @@ IsStagedAs program budget g = (term : CoreTerm) × (program_term program ≡ Som
 -- a program has no graph within a budget of steps, for this cause
 abbrev pub IsUnstaged : Program → ℕ → StageCause → Type 0
 IsUnstaged program budget cause = (term : CoreTerm) × (program_term program ≡ Some term) × IsStageFault program.inputs budget term cause
-
--- a text is a typed program with this graph
-pub record HasGraph (text : List ℕ) (budget : ℕ) (g : GraphValue) : Type 0 where
-  pub program : Program
-  pub typed : IsTypedText text program
-  pub staged : IsStagedAs program budget g
-
--- a text is a typed program without a graph
-pub record IsUngraphed (text : List ℕ) (budget : ℕ) (cause : StageCause) : Type 0 where
-  pub program : Program
-  pub typed : IsTypedText text program
-  pub unstaged : IsUnstaged program budget cause
 
 -- ---- plans
 
@@ -83,13 +67,6 @@ pub record AreUnplanned (program script : List ℕ) (budget : ℕ) (cause : Stag
 
 -- ---- refusals
 
--- why the text of a program has no graph
-abbrev pub IsGraphFault : ℕ → List ℕ → Status → Type 0
-IsGraphFault budget program (Syntax cause at) = IsSyntaxFault program cause at
-IsGraphFault budget program (Typing cause at) = IsTypingFault program cause at
-IsGraphFault budget program (Stage cause) = IsUngraphed program budget cause
-IsGraphFault budget program _ = ⊥
-
 -- why the text of a program and the text of a script have no plan
 abbrev pub IsPlanFault : ℕ → List ℕ → List ℕ → Status → Type 0
 IsPlanFault budget program script (Syntax cause at) = IsSyntaxFault program cause at
@@ -97,6 +74,11 @@ IsPlanFault budget program script (Typing cause at) = IsTypingFault program caus
 IsPlanFault budget program script (Script cause line) = IsScriptFault program script cause line
 IsPlanFault budget program script (Stage cause) = AreUnplanned program script budget cause
 IsPlanFault budget program script _ = ⊥
+
+-- what the text of a program and the text of a script come to: their plan, or why they have none
+abbrev pub ComeTo : ℕ → List ℕ → List ℕ → Result Planned Status → Type 0
+ComeTo budget program script (Ok plan) = HavePlan program script budget plan
+ComeTo budget program script (Err status) = IsPlanFault budget program script status
 
 -- this holds of a status, or it says that there was no memory
 abbrev pub OrMemory : (Status → Type 0) → Status → Type 0

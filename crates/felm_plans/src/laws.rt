@@ -1,14 +1,9 @@
 //! Laws of what texts come to: functions whose body does nothing, each for the sake of its contract.
-ghost use Rattle.felm_plans.specs.Laws.{OnePlan, OneGraph, TextsNameTheirJournals, TextsAreProgramsOrFaulty, FaultyTextsAreNoPrograms, FaultyProgramsAreUntyped};
+ghost use Rattle.felm_plans.specs.Laws.{TextsComeToOnePlan, TextsNameTheirJournals, TextsAreProgramsOrFaulty, FaultyTextsAreNoPrograms, FaultyProgramsAreUntyped};
 
-/// Two texts have at most one plan.
-pub fn one_plan()
-    ensures { OnePlan }
-{}
-
-/// A text has at most one graph.
-pub fn one_graph()
-    ensures { OneGraph }
+/// Two texts come to at most one plan or fault.
+pub fn texts_come_to_one_plan()
+    ensures { TextsComeToOnePlan }
 {}
 
 /// The bytes of a result text of a plan of two texts name its journal, and so do those of a stopped

@@ -1,4 +1,4 @@
-//! The plan of two texts, and the graph of one.
+//! The plan of two texts.
 ghost use Rattle.std.specs.Prelude.{◌≡◌, ◌≤◌, ◌<◌, ◌^◌, ◌+◌, length, IfOk, OnOk, IfErr, Some, Ok, IsTrue};
 ghost use Rattle.felm_term.specs.Events.{all_fit};
 ghost use Rattle.felm_lexer.specs.Readings.{Reads as Tokenizes, Whole};
@@ -6,7 +6,7 @@ ghost use Rattle.felm_syntax.specs.Binders.{binders};
 ghost use Rattle.felm_syntax.specs.ProgramText.{IsProgramText};
 ghost use Rattle.felm_types.specs.Typed.{IsTyped, program_term};
 ghost use Rattle.felm_script.specs.Script.{script_of};
-ghost use Rattle.felm_plans.specs.Plans.{planned, HasGraph, HavePlan, IsStagedTerm, IsProgramFault, IsCheckFault, IsEventsFault, IsTermFault, IsGraphFault, IsPlanFault, OrMemory};
+ghost use Rattle.felm_plans.specs.Plans.{planned, HavePlan, IsStagedTerm, IsProgramFault, IsCheckFault, IsEventsFault, IsTermFault, IsPlanFault, OrMemory};
 
 use crate::faults::{
     status_of_lex_fault, status_of_parse_fault, status_of_script_fault, status_of_type_fault,
@@ -87,17 +87,6 @@ fn graph_of(alloc: Global, checked: &Checked, limits: &Limits) -> Result<Graph, 
         Staged::Large => StageCause::Large,
     };
     Err(Status::Stage { cause })
-}
-
-/// The graph of the text of a program, or why it has none.
-pub fn read_graph(alloc: Global, program: &[u8], limits: &Limits) -> Result<Graph, Status>
-    requires { length program.now ≤ 16777216 }
-    ensures graph { IfOk result (HasGraph program.now limits.now.stage_steps) }
-    ensures fault { IfErr result (OrMemory (IsGraphFault limits.now.stage_steps program.now)) }
-{
-    let read = read_program(alloc, program)?;
-    let checked = check_program(alloc, &read)?;
-    graph_of(alloc, &checked, limits)
 }
 
 /// The plan of the text of a program and the text of a script, or why they have none.

@@ -4,6 +4,5 @@ pub mod Fullness
 pub mod Settling
 pub mod Running
 pub mod Ending
-pub mod Crosses
-pub mod Fresh
 pub mod Alike
+pub mod Crosses

@@ -80,7 +80,8 @@ impl InputMap {
 
     /// The name and the declaration of an input, by its number.
     pub fn at(&self, number: usize) -> Option<(&str, Declared)>
-        ensures { option_map (λ found. declaration found.0.now found.1) result ≡ slice_get self.now number }
+        ensures { option_map (λ found. declaration found.0.now found.1) result
+            ≡ slice_get self.now number }
     {
         let (name, declared) = self.entries.get_index(number)?;
         Some((name.as_str(), *declared))

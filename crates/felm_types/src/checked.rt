@@ -30,5 +30,6 @@ impl Model for Checked {
 
     ghost view = { λ a. record { term = a.term; ty = a.ty; inputs = a.inputs.items } };
 
-    ghost invariant = { λ a. HasType (signal_types a.inputs.items) [] [] a.term a.ty × IsTrue (is_simple_signal a.ty) };
+    ghost invariant = { λ a. HasType (signal_types a.inputs.items) [] [] a.term a.ty
+        × IsTrue (is_simple_signal a.ty) };
 }

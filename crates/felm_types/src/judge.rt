@@ -28,7 +28,8 @@ pub fn judge(
     requires binders { length (binders_in scope.now) + binders expr.now < 2 ^ 31 }
     requires inputs { length inputs.now < 2 ^ 31 }
     ensures ty { IfOk result (λ typed. judge inputs.now (binders_in scope.now) expr.now ≡ Ok typed.ty) }
-    ensures term { IfOk result (λ typed. core_term (names_of inputs.now) (names (binders_in scope.now)) expr.now ≡ Some typed.term.value) }
+    ensures term { IfOk result (λ typed.
+        core_term (names_of inputs.now) (names (binders_in scope.now)) expr.now ≡ Some typed.term.value) }
     ensures fault { IfErr result (IsFaultOf (judge inputs.now (binders_in scope.now) expr.now)) }
 {
     let at = expr.at;
@@ -115,8 +116,10 @@ fn judge_all(
 ) -> Result<Taken, TypeFault>
     requires binders { length (binders_in scope.now) + binders_of_all exprs.now < 2 ^ 31 }
     requires inputs { length inputs.now < 2 ^ 31 }
-    ensures left { IfOk result (λ taken. left_by left (judge_all inputs.now (binders_in scope.now) exprs.now) ≡ Ok taken.left) }
-    ensures terms { IfOk result (λ taken. core_terms (names_of inputs.now) (names (binders_in scope.now)) exprs.now ≡ Some taken.terms.value) }
+    ensures left { IfOk result (λ taken.
+        left_by left (judge_all inputs.now (binders_in scope.now) exprs.now) ≡ Ok taken.left) }
+    ensures terms { IfOk result (λ taken.
+        core_terms (names_of inputs.now) (names (binders_in scope.now)) exprs.now ≡ Some taken.terms.value) }
     ensures fault { IfErr result (IsFaultOf (judge_all inputs.now (binders_in scope.now) exprs.now)) }
 {
     match &exprs.form {

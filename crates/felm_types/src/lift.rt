@@ -41,8 +41,10 @@ pub fn lift(
     function: Box<Term>,
     arguments: Taken,
 ) -> Result<Typed, TypeFault>
-    ensures ty { IfOk result (λ whole. row at (lifted arguments.left arguments.terms.value) ≡ Ok whole.ty) }
-    ensures term { IfOk result (λ whole. whole.term.value ≡ core.Lift function.value arguments.terms.value) }
+    ensures ty { IfOk result (λ whole.
+        row at (lifted arguments.left arguments.terms.value) ≡ Ok whole.ty) }
+    ensures term { IfOk result (λ whole.
+        whole.term.value ≡ core.Lift function.value arguments.terms.value) }
     ensures fault { IfErr result (IsFaultOf (row at (lifted arguments.left arguments.terms.value))) }
 {
     let Taken { terms, left } = arguments;

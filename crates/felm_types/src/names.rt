@@ -33,8 +33,10 @@ pub fn name(
 ) -> Result<Typed, TypeFault>
     requires binders { length (binders_in scope.now) < 2 ^ 31 }
     requires inputs { length inputs.now < 2 ^ 31 }
-    ensures ty { IfOk result (λ typed. judge_name inputs.now (binders_in scope.now) name.now at ≡ Ok typed.ty) }
-    ensures term { IfOk result (λ typed. named (names_of inputs.now) (names (binders_in scope.now)) name.now ≡ Some typed.term.value) }
+    ensures ty { IfOk result (λ typed.
+        judge_name inputs.now (binders_in scope.now) name.now at ≡ Ok typed.ty) }
+    ensures term { IfOk result (λ typed.
+        named (names_of inputs.now) (names (binders_in scope.now)) name.now ≡ Some typed.term.value) }
     ensures fault { IfErr result (IsFaultOf (judge_name inputs.now (binders_in scope.now) name.now at)) }
 {
     if let Some(binder) = scope.find(name) {
@@ -50,8 +52,10 @@ pub fn name(
 
 fn input_of(inputs: &InputMap, name: &Name) -> Option<Declared>
     requires { length inputs.now < 2 ^ 31 }
-    ensures number { option_map (λ found. found.number) result ≡ position (bytes_eq name.now) (names_of inputs.now) }
-    ensures ty { IfSome result (λ found. slice_get (signal_types inputs.now) found.number ≡ Some (Signal (values_type found.ty))) }
+    ensures number { option_map (λ found. found.number) result
+        ≡ position (bytes_eq name.now) (names_of inputs.now) }
+    ensures ty { IfSome result (λ found.
+        slice_get (signal_types inputs.now) found.number ≡ Some (Signal (values_type found.ty))) }
 {
     let number = inputs.find(name.as_str())?;
     let (_, declared) = inputs.at(number)?;

@@ -31,8 +31,10 @@ impl Scope<'_> {
     /// The nearest binder of this name.
     pub fn find(&self, name: &Name) -> Option<Found<'_>>
         requires { length (binders_in self.now) < 2 ^ 31 }
-        ensures binders { option_map (λ found. found.binders) result ≡ position (bytes_eq name.now) (names (binders_in self.now)) }
-        ensures ty { IfSome result (λ found. slice_get (types (binders_in self.now)) found.binders ≡ Some found.ty.now) }
+        ensures binders { option_map (λ found. found.binders) result
+            ≡ position (bytes_eq name.now) (names (binders_in self.now)) }
+        ensures ty { IfSome result (λ found.
+            slice_get (types (binders_in self.now)) found.binders ≡ Some found.ty.now) }
         ensures within { IfSome result (λ found. found.binders < length (binders_in self.now)) }
     {
         match self {

@@ -62,7 +62,8 @@ pub fn application(
     argument: Typed,
 ) -> Result<Typed, TypeFault>
     ensures ty { IfOk result (λ whole. row at (result_type function.ty argument.ty) ≡ Ok whole.ty) }
-    ensures term { IfOk result (λ whole. whole.term.value ≡ core.App function.term.value argument.term.value) }
+    ensures term { IfOk result (λ whole.
+        whole.term.value ≡ core.App function.term.value argument.term.value) }
     ensures fault { IfErr result (IsFaultOf (row at (result_type function.ty argument.ty))) }
 {
     let ty = row(at, result_type(function.ty, &argument.ty))?;
@@ -101,7 +102,8 @@ pub fn choice(
     no: Typed,
 ) -> Result<Typed, TypeFault>
     ensures ty { IfOk result (λ whole. row at (branch_type condition.ty yes.ty no.ty) ≡ Ok whole.ty) }
-    ensures term { IfOk result (λ whole. whole.term.value ≡ core.If condition.term.value yes.term.value no.term.value) }
+    ensures term { IfOk result (λ whole.
+        whole.term.value ≡ core.If condition.term.value yes.term.value no.term.value) }
     ensures fault { IfErr result (IsFaultOf (row at (branch_type condition.ty yes.ty no.ty))) }
 {
     let ty = row(at, branch_type(&condition.ty, yes.ty, &no.ty))?;
@@ -134,7 +136,8 @@ pub fn foldp(
     signal: Typed,
 ) -> Result<Typed, TypeFault>
     ensures ty { IfOk result (λ whole. row at (foldp_type function.ty base.ty signal.ty) ≡ Ok whole.ty) }
-    ensures term { IfOk result (λ whole. whole.term.value ≡ core.Foldp function.term.value base.term.value signal.term.value) }
+    ensures term { IfOk result (λ whole.
+        whole.term.value ≡ core.Foldp function.term.value base.term.value signal.term.value) }
     ensures fault { IfErr result (IsFaultOf (row at (foldp_type function.ty base.ty signal.ty))) }
 {
     let ty = row(at, foldp_type(alloc, &function.ty, base.ty, &signal.ty)?)?;

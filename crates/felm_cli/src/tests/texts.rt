@@ -1,8 +1,11 @@
 //! Texts of programs and scripts, and the top call on them.
-use crate::{Status, felm_over_sure};
+use crate::{Status, felm, felm_over_sure};
 use felm_io::{SureFiles, SureSink};
+use felm_workers::Gate;
 use std::alloc::{AllocError, Global};
+use std::sync::Wait;
 use std::test::Fail;
+use std::thread::Threads;
 
 /// The program that shows its input `x`.
 pub const PROGRAM: &[u8] = b"input x : int = 0\nmain = x\n";
@@ -39,6 +42,33 @@ pub fn command(alloc: Global, texts: &[&str], program: &[u8], script: &[u8]) -> 
     let mut err = SureSink::make(alloc);
     let words = words(alloc, texts)?;
     let status = felm_over_sure(alloc, words.as_slice(), &mut files, &mut out, &mut err);
+    Ok(Left { status, out, err })
+}
+
+/// The same by the call that may wait, with this gate.
+pub fn called<G: Gate + Sync, R: Threads + Wait + Sync>(
+    rt: &R,
+    alloc: Global,
+    texts: &[&str],
+    program: &[u8],
+    script: &[u8],
+    gate: &G,
+) -> Result<Left, Fail> {
+    let mut files = SureFiles::make(alloc);
+    files.add("p", program).map_err(|_| AllocError)?;
+    files.add("s", script).map_err(|_| AllocError)?;
+    let mut out = SureSink::make(alloc);
+    let mut err = SureSink::make(alloc);
+    let words = words(alloc, texts)?;
+    let status = felm(
+        rt,
+        alloc,
+        words.as_slice(),
+        &mut files,
+        &mut out,
+        &mut err,
+        gate,
+    );
     Ok(Left { status, out, err })
 }
 
