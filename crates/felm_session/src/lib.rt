@@ -9,5 +9,5 @@ mod session;
 
 pub use conclusion::{Concluded, conclude};
 pub use crossing::sessions_cross;
-pub use laws::without_asyncs_one_end;
+pub use laws::{settled_sessions_have_room, without_asyncs_one_end};
 pub use session::{Begun, Session};
